@@ -9,12 +9,14 @@ pub use id::{Id, NodeId};
 pub use key::{Key, KeyLength};
 pub use memory::OutOfMemory;
 pub use node_set::{Members, NodeSet, majorities_meet, majority};
+pub use region::Region;
 pub use step_refused::StepRefused;
 
 pub mod hash;
 pub mod id;
 pub mod key;
 pub mod node_set;
+pub mod region;
 pub mod step_refused;
 
 /// The most nodes that a table has.

@@ -1,0 +1,15 @@
+//! One register: its operations, its replies, and the lists of operations that it could have taken.
+//!
+//! Above: every crate that speaks of operations or stories. Below: `memory`.
+//! Promise: `step` is the register; `legal` and `keeps_order` are true of exactly the lists that they name.
+#![tactic(auto)]
+
+pub use memory::OutOfMemory;
+pub use operation::{Op, OpId, Reply, Span, Told};
+pub use value::{Value, ValueLength};
+
+pub mod operation;
+pub mod value;
+
+/// The most bytes that a value has.
+pub const MAX_VALUE_BYTES: usize = 1024;
