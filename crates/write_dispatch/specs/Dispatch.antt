@@ -1,5 +1,6 @@
 -- Pending operations, kept acks, and when an operation is decided.
 use Rattle.std.specs.Prelude.{ℕ, ◌==◌, ◌*◌, Bool, true, false, ◌&&◌, ◌||◌, nat_lt, nat_le, List, [], ◌∷◌, ◌++◌, length, count_by, Option, Some, None, option_map, slice_set, slice_index_or, if◌then◌else◌}
+use lib.ListN.{replicate}
 use Rattle.register_laws.specs.declared.operation.OpId.{OpId}
 use Rattle.register_laws.specs.declared.operation.Reply.{Reply}
 use Rattle.contract_types.specs.declared.contract.Contract.{Contract}
@@ -19,6 +20,10 @@ pub record DispatchState : Type 0 where
 -- one more pending operation, or a sync
 abbrev pub with_pending : DispatchState → Option OpId → ℕ → Reply → DispatchState
 with_pending s op at reply = record s { waiting = s.waiting ++ record { op = op; at = at; reply = reply } ∷ [] }
+
+-- no server acknowledged anything
+unfoldable pub no_acks : Acks
+no_acks = replicate 64 None
 
 abbrev pub ack_of : Acks → ℕ → Option KeptAck
 ack_of acks server = slice_index_or acks server None

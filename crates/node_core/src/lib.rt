@@ -1,0 +1,11 @@
+//! One node of the table: its state, its step, and the journal of the steps of all nodes.
+//!
+//! Above: `world_core`. Below: the executors.
+//! Promise: `Node::step` is the node step, `node_step`, and `Node::serving` is `serves`.
+#![tactic(auto)]
+
+pub use journal::{Entry, Journal};
+pub use node::Brought;
+
+pub mod journal;
+pub mod node;

@@ -1,0 +1,149 @@
+-- A primary's execution of a contract, and its rows.
+use Rattle.std.specs.Prelude.{ℕ, ◌==◌, ◌+◌, ◌-◌, ◌^◌, Bool, true, false, ◌&&◌, ◌||◌, nat_lt, nat_le, max, min, List, [], ◌∷◌, ◌++◌, map, filter, Option, Some, None, is_some, if◌then◌else◌}
+use Rattle.std.specs.List.{list_any}
+use Rattle.region_map.specs.declared.id.NodeId.{NodeId}
+use Rattle.region_map.specs.declared.id.Id.{Id}
+use Rattle.register_laws.specs.declared.operation.OpId.{OpId}
+use Rattle.register_laws.specs.declared.operation.Op.{Op}
+use Rattle.register_laws.specs.Register.{reply_of, state_after, writes}
+use Rattle.contract_types.specs.declared.contract.Contract.{Contract}
+use Rattle.exec_types.specs.declared.message.SessionName.{SessionName}
+use Rattle.exec_types.specs.declared.message.Got.{Got}
+use Rattle.exec_types.specs.declared.message.Part.{Part}
+use Rattle.exec_types.specs.declared.message.Part.TheVariants.{Write, Sync}
+use Rattle.exec_types.specs.declared.message.Message.TheVariants as message
+use Rattle.exec_types.specs.declared.outcome.Outcome.TheVariants.{Done, NotServing, NoMajority}
+use Rattle.exec_types.specs.declared.output.Output.{Output}
+use Rattle.exec_types.specs.declared.output.Output.TheVariants.{Message, Dispatched, Answer}
+use Rattle.exec_types.specs.Sessions.{same_session}
+use Rattle.store_plain.specs.Rows.{Rows, with_row, value_of}
+use Rattle.write_dispatch.specs.declared.decided.Decided.{Decided}
+use Rattle.write_dispatch.specs.Dispatch.{DispatchState, with_pending, with_ack, counts_of, is_decided, pending_of, without_op}
+use Rattle.primary_exec.specs.declared.session.Session.{Session}
+
+-- a started execution: its contract, the branch that it writes, the last timestamp that it took, what is
+-- pending with the kept acks, and its sessions in rising servers
+pub record Execution : Type 0 where
+  pub contract : Contract
+  pub me : NodeId
+  pub branch : Id
+  pub last : ℕ
+  pub dispatch : DispatchState
+  pub sessions : List Session
+
+-- an execution after its row, the rows of its node, and what it gave
+pub record PrimaryStep : Type 0 where
+  pub execution : Execution
+  pub rows : Rows
+  pub outs : List Output
+
+-- ---- dispatch
+
+-- a session with this many unacknowledged parts ends in place of one more
+abbrev pub most_unacked : ℕ
+most_unacked = 1024
+
+abbrev pub has_room : Session → Bool
+has_room session = nat_lt (session.sent - session.acked) most_unacked
+
+abbrev pub with_sent : Session → Session
+with_sent session = record session { sent = session.sent + 1 }
+
+-- the next part of a session
+abbrev pub sends : Part → Session → Output
+sends part session = Message session.server (message.Stream (record { session = session.name; number = session.sent + 1; part = part }))
+
+-- what the secondaries are sent of an operation at a timestamp on the state before it
+abbrev pub part_of : Option (List ℕ) → ℕ → List ℕ → Op → Part
+part_of before at key what =
+    if writes before what then Write at key (record { value = state_after before what; recency = at }) else Sync at
+
+-- the rows after an operation at a timestamp on the state before it
+abbrev pub rows_after : Rows → Option (List ℕ) → ℕ → List ℕ → Op → Rows
+rows_after rows before at key what =
+    if writes before what then with_row rows key (record { value = state_after before what; recency = at }) else rows
+
+-- an operation takes the next timestamp, is applied to the primary's own rows, sent to the secondaries, and is
+-- pending with the register's reply
+abbrev pub dispatch_row : Execution → Rows → OpId → List ℕ → Op → PrimaryStep
+dispatch_row x rows op key what =
+    record {
+      execution =
+        record x {
+          last = x.last + 1;
+          dispatch = with_pending x.dispatch (Some op) (x.last + 1) (reply_of (value_of rows key) what);
+          sessions = map with_sent (filter has_room x.sessions);
+        };
+      rows = rows_after rows (value_of rows key) (x.last + 1) key what;
+      outs =
+        map (sends (part_of (value_of rows key) (x.last + 1) key what)) (filter has_room x.sessions)
+        ++ Dispatched op key x.branch (x.last + 1) ∷ [];
+    }
+
+-- the timestamp or the number of a part would be one that none reaches
+abbrev pub dispatch_ends_numbers : Execution → Bool
+dispatch_ends_numbers x = nat_le (2 ^ 62) (x.last + 1) || list_any (λ s. nat_le (2 ^ 62) (s.sent + 1)) (filter has_room x.sessions)
+
+-- ---- acknowledgements
+
+-- whether this is the live session with that server
+abbrev pub is_session : NodeId → SessionName → Session → Bool
+is_session from name session = (session.server.0 == from.0) && same_session session.name name
+
+abbrev pub is_live : Execution → NodeId → SessionName → Bool
+is_live x from name = list_any (is_session from name) x.sessions
+
+abbrev pub with_acked : NodeId → SessionName → ℕ → Session → Session
+with_acked from name upto session =
+    if is_session from name session then record session { acked = max session.acked (min upto session.sent) } else session
+
+-- the acks after a server told where it stands, if it did
+abbrev pub with_stands : DispatchState → NodeId → Got → Option ℕ → DispatchState
+with_stands d from got None = d
+with_stands d from got (Some at) = record d { acks = with_ack d.acks from.0 got.view at }
+
+abbrev pub got_row : Execution → NodeId → Got → Execution
+got_row x from got =
+    if is_live x from got.session
+    then record x { sessions = map (with_acked from got.session got.upto) x.sessions; dispatch = with_stands x.dispatch from got got.stands }
+    else x
+
+-- ---- answers
+
+abbrev pub answers : Id → Decided → Option OpId → List Output
+answers branch d None = []
+answers branch d (Some op) = Answer op (Done d.reply branch d.at) ∷ []
+
+-- whether a pending operation is decided under the contract in force
+abbrev pub decides : Execution → Decided → Bool
+decides x d = is_decided x.dispatch.acks x.contract x.me.0 d.at
+
+-- the answers to the pending operations that are decided, in the order of their timestamps
+abbrev pub decided_answers : Execution → List Decided → List Output
+decided_answers x [] = []
+decided_answers x (d ∷ ds) = if decides x d then answers x.branch d d.op ++ decided_answers x ds else []
+
+-- what is pending once they are answered
+abbrev pub undecided : Execution → List Decided → List Decided
+undecided x [] = []
+undecided x (d ∷ ds) = if decides x d then undecided x ds else d ∷ ds
+
+abbrev pub decided : Execution → Execution
+decided x = record x { dispatch = record x.dispatch { waiting = undecided x x.dispatch.waiting } }
+
+-- each pending operation that is decided is answered
+abbrev pub decide_outs : Execution → List Output
+decide_outs x = decided_answers x x.dispatch.waiting
+
+-- ---- giving up
+
+abbrev pub given_up : Execution → OpId → Option Decided → List Output
+given_up x op None = []
+given_up x op (Some d) = Answer op (NoMajority (counts_of x.dispatch.acks x.contract x.me.0 d.at)) ∷ []
+
+-- the operation is no longer pending, and is answered with its counts
+abbrev pub give_up_outs : Execution → OpId → List Output
+give_up_outs x op = given_up x op (pending_of x.dispatch.waiting op)
+
+abbrev pub give_up_row : Execution → OpId → Execution
+give_up_row x op = record x { dispatch = record x.dispatch { waiting = without_op x.dispatch.waiting op } }

@@ -1,0 +1,9 @@
+//! A secondary: it follows a primary's stream of writes.
+//!
+//! Above: `node_core`. Below: `exec_types`, `store_plain`.
+//! Promise: each row of the secondary is its definition, `stream_row`.
+#![tactic(auto)]
+
+pub use following::Following;
+
+pub mod following;
