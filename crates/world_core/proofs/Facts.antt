@@ -1,0 +1,207 @@
+-- What holds of the history of a run, and how one more entry keeps it.
+use Rattle.std.proofs.Common.{◌≡◌, ◌≢◌, ℕ, ◌+◌, ◌≤◌, ◌==◌, Bool, true, false, cond, not, ◌&&◌, ◌||◌, List, [], ◌∷◌, ◌++◌, map, filter, Option, Some, None, refl, sym, ap, ap₂, ◌∙◌, subst, ◌⊎◌, inl, inr, arith}
+use Rattle.std.proofs.lemmas.Bool.{false≢true, true≢false, eqb-true, eq-eqb, or_left, or_right, or_cases}
+use Rattle.std.specs.List.{AllByRecursion}
+use Rattle.region_map.specs.declared.id.Id.{Id}
+use Rattle.register_laws.specs.declared.operation.OpId.{OpId}
+use Rattle.register_laws.specs.declared.operation.Op.{Op}
+use Rattle.register_laws.specs.declared.operation.Reply.{Reply}
+use Rattle.register_laws.specs.Lists.{same_op}
+use Rattle.exec_types.specs.declared.input.Input.{Input}
+use Rattle.exec_types.specs.declared.input.Input.TheVariants.{Request, GiveUp, Deliver}
+use Rattle.exec_types.specs.declared.outcome.Outcome.{Outcome}
+use Rattle.exec_types.specs.declared.outcome.Outcome.TheVariants.{Done, NotServing, NoMajority}
+use Rattle.node_core.specs.declared.journal.Entry.{Entry}
+use Rattle.write_dispatch.specs.declared.decided.Decided.{Decided}
+use Rattle.world_core.specs.Run.{requests, is_requested, is_fresh}
+use Rattle.world_core.specs.Story.{Point, IsIn, answer_in, or_else, answer, is_answered_outcome, is_answered, points, points_of, path, is_on_path, Requests, IsRequested}
+use Rattle.world_core.proofs.Told.{has_point, point_times, point_times-append, has_point-append, TookEffect, TookEffect-more, filter-append, IsIn-append}
+
+-- ---- operations and requests
+
+pub same_op-true : (a b : OpId) → same_op a b ≡ true → a ≡ b
+same_op-true a b e = λ i. record { 0 = eqb-true a.0 b.0 e i }
+
+pub same_op-refl : (a : OpId) → same_op a a ≡ true
+same_op-refl a = eq-eqb a.0 a.0 refl
+
+pub Requests-test : (input : Input) (key : List ℕ) (op : OpId) (what : Op) → Requests input key op what → requests input op ≡ true
+Requests-test (Request q k w) key op what h = ap (λ (o : OpId). same_op q o) (sym h.0) ∙ same_op-refl q
+Requests-test (GiveUp q) key op what h = absurd h
+Requests-test (Deliver number) key op what h = absurd h
+
+pub IsRequested-test : (past : List Entry) (key : List ℕ) (op : OpId) (what : Op) → IsRequested past key op what → is_requested past op ≡ true
+IsRequested-test [] key op what h = absurd h
+IsRequested-test (e ∷ past) key op what h =
+    elim h [
+      | inl r ↦ or_left (requests e.input op) (is_requested past op) (Requests-test e.input key op what r)
+      | inr r ↦ or_right (requests e.input op) (is_requested past op) (IsRequested-test past key op what r)
+    ]
+
+-- an operation that an input requests anew was not requested before
+pub fresh_apart : (past : List Entry) (input : Input) (op : OpId) → is_fresh past input ≡ true → requests input op ≡ true → is_requested past op ≡ true → ⊥
+fresh_apart past (Request q k w) op f r h =
+    let same : q ≡ op = same_op-true q op r in
+    let old : is_requested past q ≡ true = ap (is_requested past) same ∙ h in
+    false≢true (sym (ap not old) ∙ f)
+fresh_apart past (GiveUp q) op f r h = false≢true r
+fresh_apart past (Deliver number) op f r h = false≢true r
+
+-- ---- points
+
+-- an operation has no point among some, or one of them is its
+pub point_times_or : (ps : List Point) (op : OpId) → (point_times ps op ≡ 0) ⊎ ((p : Point) × IsIn ps p × (p.op ≡ op))
+point_times_or [] op = inl refl
+point_times_or (p ∷ ps) op =
+    elim (same_op p.op op) as (λ c. same_op p.op op ≡ c → (cond c 1 0 + point_times ps op ≡ 0) ⊎ ((q : Point) × IsIn (p ∷ ps) q × (q.op ≡ op))) [
+      | true ↦ λ e. inr (p, inl refl, same_op-true p.op op e)
+      | false ↦ λ e. elim (point_times_or ps op) [ inl z ↦ inl (omega (arith, z)) | inr r ↦ inr (r.0, inr r.1, r.2) ]
+    ] refl
+
+pub has_point_of : (ps : List Point) (op : OpId) → has_point ps op ≡ true → (p : Point) × IsIn ps p × (p.op ≡ op)
+has_point_of [] op h = absurd (false≢true h)
+has_point_of (p ∷ ps) op h =
+    elim (or_cases (same_op p.op op) (has_point ps op) h) [
+      | inl e ↦ (p, inl refl, same_op-true p.op op e)
+      | inr r ↦ let q = has_point_of ps op r in (q.0, inr q.1, q.2)
+    ]
+
+-- ---- what waits, and what was answered
+
+-- an operation that was requested took effect with this reply
+abbrev pub Waits : List Entry → Option OpId → Reply → Type 0
+Waits past None reply = Unit {0}
+Waits past (Some op) reply = (key : List ℕ) × (what : Op) × IsRequested past key op what × TookEffect (path past key) op what reply
+
+pub record WaitsWell (past : List Entry) (d : Decided) : Type 0 where
+  pub waits : Waits past d.op d.reply
+
+pub path-cons : (past : List Entry) (e : Entry) (key : List ℕ) → path (e ∷ past) key ≡ path past key ++ filter (is_on_path key) (points_of e.input e.outputs)
+path-cons past e key = filter-append (is_on_path key) (points past) (points_of e.input e.outputs)
+
+pub Waits-more : (past : List Entry) (e : Entry) (op : Option OpId) (reply : Reply) → Waits past op reply → Waits (e ∷ past) op reply
+Waits-more past e None reply h = tt
+Waits-more past e (Some op) reply h =
+    (h.0, h.1, inr h.2,
+     subst (λ (l : List Point). TookEffect l op h.1 reply) (sym (path-cons past e h.0))
+     (TookEffect-more (path past h.0) op h.1 reply (filter (is_on_path h.0) (points_of e.input e.outputs)) h.3))
+
+pub WaitsWell-more : (past : List Entry) (e : Entry) (ds : List Decided) → AllByRecursion (WaitsWell past) ds → AllByRecursion (WaitsWell (e ∷ past)) ds
+WaitsWell-more past e [] h = tt
+WaitsWell-more past e (d ∷ ds) h = (record { waits = Waits-more past e d.op d.reply h.0.waits }, WaitsWell-more past e ds h.1)
+
+-- what a step may answer to an operation
+abbrev pub SaysWell : List Entry → Entry → OpId → Outcome → Type 0
+SaysWell past e op (Done reply branch timestamp) = Waits (e ∷ past) (Some op) reply
+SaysWell past e op NotServing = (requests e.input op ≡ true) × (points_of e.input e.outputs ≡ [])
+SaysWell past e op (NoMajority counts) = is_requested (e ∷ past) op ≡ true
+
+pub record Says (past : List Entry) (e : Entry) (op : OpId) (outcome : Outcome) : Type 0 where
+  pub says : SaysWell past e op outcome
+
+pub record History (past : List Entry) : Type 0 where
+  pub requested : (p : Point) → IsIn (points past) p → IsRequested past p.key p.op p.what
+  pub once : (op : OpId) → point_times (points past) op ≤ 1
+  pub answered : (op : OpId) → is_answered past op ≡ true → is_requested past op ≡ true
+  pub done : (op : OpId) (reply : Reply) (branch : Id) (timestamp : ℕ) → answer past op ≡ Some (Done reply branch timestamp) → Waits past (Some op) reply
+  pub served : (op : OpId) → has_point (points past) op ≡ true → answer past op ≢ Some NotServing
+
+-- what a step of a run adds to the history
+pub record Adds (past : List Entry) (e : Entry) : Type 0 where
+  pub fresh : is_fresh past e.input ≡ true
+  pub new : (p : Point) → IsIn (points_of e.input e.outputs) p → Requests e.input p.key p.op p.what
+  pub few : (op : OpId) → point_times (points_of e.input e.outputs) op ≤ 1
+  pub says : (op : OpId) (outcome : Outcome) → answer_in e.outputs op ≡ Some outcome → Says past e op outcome
+
+says_requested : (past : List Entry) (e : Entry) (op : OpId) (outcome : Outcome) → SaysWell past e op outcome → is_requested (e ∷ past) op ≡ true
+says_requested past e op (Done reply branch timestamp) h = IsRequested-test (e ∷ past) h.0 op h.1 h.2
+says_requested past e op NotServing h = or_left (requests e.input op) (is_requested past op) h.0
+says_requested past e op (NoMajority counts) h = h
+
+History-requested : (past : List Entry) (e : Entry) → History past → Adds past e → (p : Point) → IsIn (points (e ∷ past)) p → IsRequested (e ∷ past) p.key p.op p.what
+History-requested past e h a p i =
+    elim (IsIn-append (points past) (points_of e.input e.outputs) p i) [
+      | inl old ↦ inr (h.requested p old)
+      | inr new ↦ inl (a.new p new)
+    ]
+
+-- an operation with an old point and a new one
+twice : (past : List Entry) (e : Entry) → History past → Adds past e → (op : OpId) (p q : Point) → IsIn (points past) p → p.op ≡ op → IsIn (points_of e.input e.outputs) q → q.op ≡ op → ⊥
+twice past e h a op p q i pe j qe =
+    let new : requests e.input op ≡ true = ap (requests e.input) (sym qe) ∙ Requests-test e.input q.key q.op q.what (a.new q j) in
+    let old : is_requested past op ≡ true = ap (is_requested past) (sym pe) ∙ IsRequested-test past p.key p.op p.what (h.requested p i) in
+    fresh_apart past e.input op a.fresh new old
+
+History-once : (past : List Entry) (e : Entry) → History past → Adds past e → (op : OpId) → point_times (points (e ∷ past)) op ≤ 1
+History-once past e h a op =
+    let sum = point_times-append (points past) (points_of e.input e.outputs) op in
+    let old = h.once op in
+    let new = a.few op in
+    elim (point_times_or (points past) op) [
+      | inl z ↦ omega (arith, sum, old, new, z)
+      | inr p ↦ elim (point_times_or (points_of e.input e.outputs) op) [
+          | inl z ↦ omega (arith, sum, old, new, z)
+          | inr q ↦ absurd (twice past e h a op p.0 q.0 p.1 p.2 q.1 q.2)
+        ]
+    ]
+
+History-answered : (past : List Entry) (e : Entry) → History past → Adds past e → (op : OpId) → is_answered (e ∷ past) op ≡ true → is_requested (e ∷ past) op ≡ true
+History-answered past e h a op =
+    elim (answer past op) as (λ v. answer past op ≡ v → is_answered_outcome (or_else v (answer_in e.outputs op)) ≡ true → is_requested (e ∷ past) op ≡ true) [
+      | Some outcome ↦ λ is _. or_right (requests e.input op) (is_requested past op) (h.answered op (ap is_answered_outcome is))
+      | None ↦ λ _ k.
+          elim (answer_in e.outputs op) as (λ v. answer_in e.outputs op ≡ v → is_answered_outcome v ≡ true → is_requested (e ∷ past) op ≡ true) [
+            | Some outcome ↦ λ is _. says_requested past e op outcome (a.says op outcome is).says
+            | None ↦ λ _ no'. absurd (false≢true no')
+          ] refl k
+    ] refl
+
+History-done : (past : List Entry) (e : Entry) → History past → Adds past e → (op : OpId) (reply : Reply) (branch : Id) (timestamp : ℕ) → answer (e ∷ past) op ≡ Some (Done reply branch timestamp) → Waits (e ∷ past) (Some op) reply
+History-done past e h a op reply branch timestamp =
+    elim (answer past op) as (λ v. answer past op ≡ v → or_else v (answer_in e.outputs op) ≡ Some (Done reply branch timestamp) → Waits (e ∷ past) (Some op) reply) [
+      | Some outcome ↦ λ is k. Waits-more past e (Some op) reply (h.done op reply branch timestamp (is ∙ k))
+      | None ↦ λ _ k. (a.says op (Done reply branch timestamp) k).says
+    ] refl
+
+History-served : (past : List Entry) (e : Entry) → History past → Adds past e → (op : OpId) → has_point (points (e ∷ past)) op ≡ true → answer (e ∷ past) op ≢ Some NotServing
+History-served past e h a op has =
+    let where' = or_cases (has_point (points past) op) (has_point (points_of e.input e.outputs) op) (sym (has_point-append (points past) (points_of e.input e.outputs) op) ∙ has) in
+    elim (answer past op) as (λ v. answer past op ≡ v → or_else v (answer_in e.outputs op) ≢ Some NotServing) [
+      | Some outcome ↦ λ is k.
+          elim where' [
+            | inl old ↦ h.served op old (is ∙ k)
+            | inr new ↦
+                let p = has_point_of (points_of e.input e.outputs) op new in
+                let req : requests e.input op ≡ true = ap (requests e.input) (sym p.2) ∙ Requests-test e.input p.0.key p.0.op p.0.what (a.new p.0 p.1) in
+                fresh_apart past e.input op a.fresh req (h.answered op (ap is_answered_outcome is))
+          ]
+      | None ↦ λ _ k.
+          let s : SaysWell past e op NotServing = (a.says op NotServing k).says in
+          elim where' [
+            | inl old ↦
+                let p = has_point_of (points past) op old in
+                let req : is_requested past op ≡ true = ap (is_requested past) (sym p.2) ∙ IsRequested-test past p.0.key p.0.op p.0.what (h.requested p.0 p.1) in
+                fresh_apart past e.input op a.fresh s.0 req
+            | inr new ↦ false≢true (ap (λ (l : List Point). has_point l op) (sym s.1) ∙ new)
+          ]
+    ] refl
+
+pub History-more : (past : List Entry) (e : Entry) → History past → Adds past e → History (e ∷ past)
+History-more past e h a =
+    record {
+      requested = History-requested past e h a;
+      once = History-once past e h a;
+      answered = History-answered past e h a;
+      done = History-done past e h a;
+      served = History-served past e h a;
+    }
+
+pub History-nil : History []
+History-nil =
+    record {
+      requested = λ p i. absurd i;
+      once = λ op. omega arith;
+      answered = λ op h. absurd (false≢true h);
+      done = λ op reply branch timestamp h. cc;
+      served = λ op h. absurd (false≢true h);
+    }
