@@ -4,10 +4,12 @@
 //! Promise: `step` is the register; `legal` and `keeps_order` are true of exactly the lists that they name.
 #![tactic(auto)]
 
+pub use list::{keeps_order, legal};
 pub use memory::OutOfMemory;
-pub use operation::{Op, OpId, Reply, Span, Told};
-pub use value::{Value, ValueLength};
+pub use operation::{Op, OpId, Reply, Span, Told, step};
+pub use value::{Value, ValueLength, copy_value};
 
+pub mod list;
 pub mod operation;
 pub mod value;
 
