@@ -4,12 +4,19 @@
 //! Promise: `step` is the register; `legal` and `keeps_order` are true of exactly the lists that they name.
 #![tactic(auto)]
 
+pub use laws::{filled_list_is_legal, left_out_reads_change_no_reply, unwritten_state_stays};
+pub use list::{keeps_order, legal};
 pub use memory::OutOfMemory;
-pub use operation::{Op, OpId, Reply, Span, Told};
-pub use value::{Value, ValueLength};
+pub use operation::{Op, OpId, Reply, Span, Told, step};
+pub use value::{Value, ValueLength, copy_value};
 
+pub mod laws;
+pub mod list;
 pub mod operation;
 pub mod value;
 
 /// The most bytes that a value has.
 pub const MAX_VALUE_BYTES: usize = 1024;
+
+#[cfg(test)]
+mod tests;

@@ -77,3 +77,13 @@ impl Eq for Value {
 
     ghost laws = { nat_list_eq_equiv };
 }
+
+/// The same optional value again.
+pub fn copy_value(alloc: Global, value: &Option<Value>) -> Result<Option<Value>, OutOfMemory>
+    ensures { IfOk result (λ copy. copy ≡ value.now) }
+{
+    match value {
+        Some(value) => Ok(Some(value.copy(alloc)?)),
+        None => Ok(None),
+    }
+}

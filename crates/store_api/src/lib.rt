@@ -6,7 +6,7 @@
 ghost use Rattle.std.specs.Prelude.{◌≡◌, IfOk};
 
 use memory::OutOfMemory;
-use register_laws::Value;
+use register_laws::{Value, copy_value};
 use std::alloc::Global;
 
 /// What a node stores of a key that was written: its value, or none where it was deleted, and its recency,
@@ -15,16 +15,6 @@ use std::alloc::Global;
 pub struct Row {
     pub value: Option<Value>,
     pub recency: u64,
-}
-
-/// The same optional value again.
-pub fn copy_value(alloc: Global, value: &Option<Value>) -> Result<Option<Value>, OutOfMemory>
-    ensures { IfOk result (λ copy. copy ≡ value.now) }
-{
-    match value {
-        Some(value) => Ok(Some(value.copy(alloc)?)),
-        None => Ok(None),
-    }
 }
 
 impl Row {
