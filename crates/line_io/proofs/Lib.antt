@@ -1,1 +1,2 @@
+pub mod Rises
 pub mod Told
