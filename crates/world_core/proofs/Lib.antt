@@ -1,2 +1,4 @@
 pub mod Facts
+pub mod Orders
+pub mod RegisterStory
 pub mod Told

@@ -159,8 +159,8 @@ is_shown_told past t = is_shown past t.op t.what
 
 -- what is done stays: the story of a shorter journal up to its last done operation is a prefix of the list,
 -- without the reads that were not done by then
-abbrev pub KeepsDone : List Entry → List ℕ → List Told → List Entry → Type 0
-KeepsDone earlier key list past =
+abbrev pub KeepsDone : List Entry → List ℕ → List Told → Type 0
+KeepsDone earlier key list =
     (rest : List Told) × (filter (is_shown_told earlier) list ≡ up_to_done earlier (story earlier key) ++ rest)
 
 pub record IsRegisterStory (past : List Entry) (key : List ℕ) (list : List Told) : Type 0 where
@@ -172,4 +172,4 @@ pub record IsRegisterStory (past : List Entry) (key : List ℕ) (list : List Tol
   pub members : (t : Told) → IsIn list t → IsRequested past key t.op t.what × StandsOnce list t.op × (answer past t.op ≢ Some NotServing)
   -- an operation that was answered before another was requested stands before it
   pub order : (a b : OpId) → goes_before past a b ≡ true → has_told list a ≡ true → has_told list b ≡ true → stands_before list a b ≡ true
-  pub prefix : (later earlier : List Entry) → past ≡ later ++ earlier → KeepsDone earlier key list past
+  pub prefix : (later earlier : List Entry) → past ≡ later ++ earlier → KeepsDone earlier key list
