@@ -1,4 +1,5 @@
 pub mod Facts
 pub mod Orders
+pub mod Outs
 pub mod RegisterStory
 pub mod Told
