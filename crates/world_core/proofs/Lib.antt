@@ -2,5 +2,6 @@ pub mod Facts
 pub mod Orders
 pub mod Outs
 pub mod RegisterStory
+pub mod Runs
 pub mod Steps
 pub mod Told

@@ -83,7 +83,7 @@ same_key-self key = nat_list_eq_equiv.refl key
 
 module _ (past : List Entry) (e : Entry) where
   -- the path of a key, where the entry has no point
-  path_still : points_of e.input e.outputs ≡ [] → (key : List ℕ) → path (e ∷ past) key ≡ path past key
+  pub path_still : points_of e.input e.outputs ≡ [] → (key : List ℕ) → path (e ∷ past) key ≡ path past key
   path_still none key = path-cons past e key ∙ ap (λ (l : List Point). path past key ++ filter (is_on_path key) l) none ∙ append-nil (path past key)
 
   -- an entry without a point whose answers are known
@@ -246,7 +246,7 @@ primary_brought past node me setup rows x number (Some b) f = by b.message refl
         let r = primary_message past e x (got_row x b.from got) rows refl refl refl f (got_row-branch x b.from got) (got_row-waiting x b.from got) in
         (r.0, record { execution = decided (got_row x b.from got); primary = refl; following = refl; facts = r.1 })
 
-primary_step : (past : List Entry) (node me : NodeId) (setup : SetupState) (rows : Rows) (x : Execution) (input : Input) (b : Option Brought) → is_fresh past input ≡ true → PrimaryFacts past x rows
+pub primary_step : (past : List Entry) (node me : NodeId) (setup : SetupState) (rows : Rows) (x : Execution) (input : Input) (b : Option Brought) → is_fresh past input ≡ true → PrimaryFacts past x rows
     → Adds past (step_entry node (primary_node me setup rows x) input b)
     × PrimaryStays (step_entry node (primary_node me setup rows x) input b ∷ past) (node_step (primary_node me setup rows x) input b).node
 primary_step past node me setup rows x (Request op key what) b fresh f = primary_request past node me setup rows x op key what b fresh f
@@ -268,7 +268,7 @@ secondary_silent : (past : List Entry) (e : Entry) (s : NodeState) → is_fresh 
 secondary_silent past e s fresh none quiet' is =
     record { adds = still_adds past e fresh none (λ q. subst (λ (v : Option Outcome). Answered past e q v) (sym (quiet' q)) tt); none = none; primary = is }
 
-secondary_step : (past : List Entry) (node me : NodeId) (setup : SetupState) (rows : Rows) (f : Option Following) (input : Input) (b : Option Brought) → is_fresh past input ≡ true
+pub secondary_step : (past : List Entry) (node me : NodeId) (setup : SetupState) (rows : Rows) (f : Option Following) (input : Input) (b : Option Brought) → is_fresh past input ≡ true
     → SecondaryStep past (step_entry node (secondary_node me setup rows f) input b) (node_step (secondary_node me setup rows f) input b).node
 secondary_step past node me setup rows f (Request op key what) b fresh =
     let e : Entry = step_entry node (secondary_node me setup rows f) (Request op key what) b in
