@@ -1,6 +1,5 @@
 -- What giving up answers, by the counts of the pending operation.
-use Rattle.std.proofs.Common.{◌≡◌, ℕ, Bool, true, false, cond, List, Option, Some, Ok, Err, Result, sym, ap, ◌∙◌}
-use Rattle.register_laws.specs.declared.operation.OpId.{OpId}
+use Rattle.std.proofs.Common.{◌≡◌, ℕ, Bool, true, false, cond, Option, Some, Ok, Err, Result, sym, ap, ◌∙◌}
 use Rattle.contract_types.specs.declared.contract.Contract.{Contract}
 use Rattle.contract_types.specs.declared.counts.Counts.{Counts}
 use Rattle.write_dispatch.specs.declared.decided.Decided.{Decided}

@@ -19,4 +19,6 @@ pub mod decided;
 pub mod laws;
 pub mod pending;
 pub mod refused;
+#[cfg(test)]
+mod tests;
 mod waiting;

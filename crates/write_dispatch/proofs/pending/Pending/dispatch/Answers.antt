@@ -1,4 +1,4 @@
-use Rattle.std.proofs.Common.{◌≡◌, ℕ, IsTrue, true, subst, sym}
+use Rattle.std.proofs.Common.{◌≡◌, IsTrue, true, subst, sym}
 use Rattle.write_dispatch.specs.Dispatch.{DispatchState, all_below}
 use Rattle.write_dispatch.proofs.Queue.{is_rising-push}
 use Rattle.write_dispatch.proofs.pending.Pending.dispatch.Goals as goal

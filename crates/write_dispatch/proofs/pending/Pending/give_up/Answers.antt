@@ -1,9 +1,8 @@
-use Rattle.std.proofs.Common.{◌≡◌, List, Option, Some, None, Ok, Err, Bool, true, false, position, IsTrue, length, sym, ap, ◌∙◌, refl, subst, arith, rules}
-use Rattle.std.proofs.lemmas.Grind.{common_steps}
+use Rattle.std.proofs.Common.{◌≡◌, List, Some, None, Ok, Err, position, length, sym, ap, ◌∙◌, refl, subst}
 use Rattle.std.proofs.lemmas.Option.{slice_get_read}
 use Rattle.write_dispatch.specs.declared.decided.Decided.{Decided}
 use Rattle.write_dispatch.specs.declared.refused.GiveUpRefused.TheVariants.{StillDecided}
-use Rattle.write_dispatch.specs.Dispatch.{DispatchState, counts_of, is_of, pending_of, without_op, give_up_answer, are_majorities, is_rising}
+use Rattle.write_dispatch.specs.Dispatch.{DispatchState, counts_of, is_of, pending_of, without_op, give_up_answer}
 use Rattle.write_dispatch.proofs.GivenUp.{answer-decided, answer-undecided}
 use Rattle.write_dispatch.proofs.Queue.{IsPlace, is_rising-without_op, place_found, place_missing}
 use Rattle.write_dispatch.proofs.pending.Pending.give_up.Goals as goal

@@ -1,4 +1,4 @@
-use Rattle.std.proofs.Common.{◌≡◌, ◌+◌, ◌≤◌, List, length, drop, remove, sym, ap, ◌∙◌, subst, arith, length-drop}
+use Rattle.std.proofs.Common.{◌+◌, ◌≤◌, List, length, drop, remove, ap, ◌∙◌, arith, length-drop}
 use Rattle.write_dispatch.specs.declared.decided.Decided.{Decided}
 use Rattle.write_dispatch.proofs.Queue.{drop-remove}
 use Rattle.write_dispatch.proofs.waiting.Waiting.remove.Goals as goal
