@@ -1,5 +1,5 @@
 -- Pending operations, kept acks, and when an operation is decided.
-use Rattle.std.specs.Prelude.{ℕ, ◌==◌, ◌*◌, Bool, true, false, ◌&&◌, ◌||◌, nat_lt, nat_le, List, [], ◌∷◌, ◌++◌, length, count_by, Option, Some, None, option_map, slice_set, slice_index_or, if◌then◌else◌}
+use Rattle.std.specs.Prelude.{ℕ, ◌==◌, ◌*◌, Bool, true, false, ◌&&◌, ◌||◌, nat_lt, nat_le, List, [], ◌∷◌, ◌++◌, length, count_by, Option, Some, None, option_map, Result, Ok, Err, slice_set, slice_index_or, if◌then◌else◌}
 use lib.ListN.{replicate}
 use Rattle.register_laws.specs.declared.operation.OpId.{OpId}
 use Rattle.register_laws.specs.declared.operation.Reply.{Reply}
@@ -7,6 +7,8 @@ use Rattle.contract_types.specs.declared.contract.Contract.{Contract}
 use Rattle.contract_types.specs.declared.counts.Counts.{Counts}
 use Rattle.write_dispatch.specs.declared.decided.Decided.{Decided}
 use Rattle.write_dispatch.specs.declared.decided.KeptAck.{KeptAck}
+use Rattle.write_dispatch.specs.declared.refused.GiveUpRefused.{GiveUpRefused}
+use Rattle.write_dispatch.specs.declared.refused.GiveUpRefused.TheVariants.{NotPending, StillDecided}
 
 -- the kept ack of each server, by its number
 abbrev pub Acks : Type 0
@@ -94,6 +96,12 @@ pending_of (d ∷ ds) op = if is_of op d.op then Some d else pending_of ds op
 abbrev pub without_op : List Decided → OpId → List Decided
 without_op [] op = []
 without_op (d ∷ ds) op = if is_of op d.op then ds else d ∷ without_op ds op
+
+-- what giving up an operation answers: the counts, where it is pending and not decided
+abbrev pub give_up_answer : Acks → Contract → ℕ → Option Decided → Result Counts GiveUpRefused
+give_up_answer acks contract me None = Err NotPending
+give_up_answer acks contract me (Some d) =
+    if is_decided acks contract me d.at then Err (StillDecided (counts_of acks contract me d.at)) else Ok (counts_of acks contract me d.at)
 
 -- every pending one has a timestamp below this one
 abbrev pub all_below : ℕ → List Decided → Bool

@@ -1,0 +1,4 @@
+pub mod GivenUp
+pub mod Later
+pub mod Queue
+pub mod Sums
