@@ -1,0 +1,143 @@
+-- The grammar of a line: the words with their members.
+--
+--     do              required members        optional members
+--     setup           nodes                   hash (8)
+--     put             op, node, key, value
+--     delete, read    op, node, key
+--     giveup          node, for
+--     deliver, lose   message
+--     flush
+--
+-- No other member may stand. Numbers are whole, without sign and below 2^64. Keys and values are texts and mean their
+-- UTF-8 bytes. A member of an object is found in an object alone, so a line that is none has no word.
+use Rattle.std.specs.Prelude.{ℕ, Bool, true, false, ◌&&◌, nat_lt, nat_le, bytes_eq, codes, List, [], ◌∷◌, length, Option, Some, None, option_map, option_and_then, if◌then◌else◌}
+use Rattle.std.specs.List.{list_any}
+use Rattle.serde_json.specs.Data.{Data, null, boolean, number, string, array, object, Members, no_members, member}
+use Rattle.serde_json.specs.Find.{get, as_number, as_u64, as_str}
+use Rattle.region_map.specs.Keys.{is_key}
+use Rattle.region_map.specs.Nodes.{node_id}
+use Rattle.region_map.specs.declared.id.NodeId.{NodeId}
+use Rattle.register_laws.specs.declared.operation.OpId.{OpId}
+use Rattle.register_laws.specs.declared.operation.Op.TheVariants.{Put, Delete, Read}
+use Rattle.contract_types.specs.Setup.{SetupState, is_setup}
+use Rattle.script_text.specs.declared.script.ScriptWord.{ScriptWord}
+use Rattle.script_text.specs.declared.script.ScriptWord.TheVariants.{Request, GiveUp, Deliver, Lose, Flush}
+
+infixl 10 ◌>>=◌
+abbrev pub ◌>>=◌ : {A B : Type 0} → Option A → (A → Option B) → Option B
+o >>= f = option_and_then f o
+
+-- what passes a test
+abbrev pub kept_if : {A : Type 0} → Bool → A → Option A
+kept_if test a = if test then Some a else None
+
+-- ---- members
+
+abbrev pub number_of_data : Data → Option ℕ
+number_of_data d = option_and_then as_u64 (as_number d)
+
+-- the number at a name
+abbrev pub number_in : List ℕ → Data → Option ℕ
+number_in name line = option_and_then number_of_data (get name line)
+
+abbrev pub number_or : ℕ → Option Data → Option ℕ
+number_or default None = Some default
+number_or default (Some d) = number_of_data d
+
+-- the text at a name
+abbrev pub text_in : List ℕ → Data → Option (List ℕ)
+text_in name line = option_and_then as_str (get name line)
+
+abbrev pub op_in : List ℕ → Data → Option OpId
+op_in name line = option_map (λ n. record { 0 = n }) (number_in name line)
+
+-- a node of the table
+abbrev pub node_in : SetupState → Data → Option NodeId
+node_in setup line = do
+  n ← number_in (codes "node") line
+  kept_if (nat_lt n setup.nodes) (node_id n)
+
+-- 1 to 64 bytes
+abbrev pub key_in : Data → Option (List ℕ)
+key_in line = do
+  key ← text_in (codes "key") line
+  kept_if (is_key key) key
+
+-- at most 1,024 bytes
+abbrev pub value_in : Data → Option (List ℕ)
+value_in line = do
+  value ← text_in (codes "value") line
+  kept_if (nat_le (length value) 1024) value
+
+-- each member of the object has one of these names
+abbrev pub are_named : List (List ℕ) → Members → Bool
+are_named names no_members = true
+are_named names (member name d ms) = list_any (bytes_eq name) names && are_named names ms
+
+abbrev pub has_only : List (List ℕ) → Data → Bool
+has_only names null = false
+has_only names (boolean b) = false
+has_only names (number n) = false
+has_only names (string s) = false
+has_only names (array items) = false
+has_only names (object ms) = are_named names ms
+
+-- ---- words
+
+abbrev pub setup_of : Data → Option SetupState
+setup_of line = do
+  nodes ← number_in (codes "nodes") line
+  hashes ← number_or 8 (get (codes "hash") line)
+  kept_if (has_only (codes "do" ∷ codes "nodes" ∷ codes "hash" ∷ []) line && is_setup nodes hashes) (record { nodes = nodes; hashes = hashes })
+
+abbrev pub put_of : SetupState → Data → Option ScriptWord
+put_of setup line = do
+  op ← op_in (codes "op") line
+  node ← node_in setup line
+  key ← key_in line
+  value ← value_in line
+  kept_if (has_only (codes "do" ∷ codes "op" ∷ codes "node" ∷ codes "key" ∷ codes "value" ∷ []) line) (Request op node key (Put value))
+
+abbrev pub delete_of : SetupState → Data → Option ScriptWord
+delete_of setup line = do
+  op ← op_in (codes "op") line
+  node ← node_in setup line
+  key ← key_in line
+  kept_if (has_only (codes "do" ∷ codes "op" ∷ codes "node" ∷ codes "key" ∷ []) line) (Request op node key Delete)
+
+abbrev pub read_of : SetupState → Data → Option ScriptWord
+read_of setup line = do
+  op ← op_in (codes "op") line
+  node ← node_in setup line
+  key ← key_in line
+  kept_if (has_only (codes "do" ∷ codes "op" ∷ codes "node" ∷ codes "key" ∷ []) line) (Request op node key Read)
+
+abbrev pub giveup_of : SetupState → Data → Option ScriptWord
+giveup_of setup line = do
+  node ← node_in setup line
+  op ← op_in (codes "for") line
+  kept_if (has_only (codes "do" ∷ codes "node" ∷ codes "for" ∷ []) line) (GiveUp node op)
+
+abbrev pub deliver_of : Data → Option ScriptWord
+deliver_of line = do
+  message ← number_in (codes "message") line
+  kept_if (has_only (codes "do" ∷ codes "message" ∷ []) line) (Deliver message)
+
+abbrev pub lose_of : Data → Option ScriptWord
+lose_of line = do
+  message ← number_in (codes "message") line
+  kept_if (has_only (codes "do" ∷ codes "message" ∷ []) line) (Lose message)
+
+abbrev pub flush_of : Data → Option ScriptWord
+flush_of line = kept_if (has_only (codes "do" ∷ []) line) Flush
+
+-- the word of a line whose `do` is this name; a setup is none
+abbrev pub word_named : SetupState → List ℕ → Data → Option ScriptWord
+word_named setup name line =
+    if bytes_eq name (codes "put") then put_of setup line else
+    if bytes_eq name (codes "delete") then delete_of setup line else
+    if bytes_eq name (codes "read") then read_of setup line else
+    if bytes_eq name (codes "giveup") then giveup_of setup line else
+    if bytes_eq name (codes "deliver") then deliver_of line else
+    if bytes_eq name (codes "lose") then lose_of line else
+    if bytes_eq name (codes "flush") then flush_of line else None

@@ -1,0 +1,23 @@
+//! Scripts: what a text of lines asks of a table, and how a program ends.
+//!
+//! A script is read line by line. The first line that is not blank may set up the table; every other one is a word
+//! with its members, as the grammar in specs/Grammar.antt says.
+//!
+//! Above: the programs. Below: `contract_types`, `register_laws`, `region_map`, `serde_json`.
+//! Promise: `read_script` gives what `read_lines` says of the text, and refuses exactly at the line that it names.
+#![tactic(auto)]
+
+pub use contract_types::{Setup, Which};
+pub use memory::OutOfMemory;
+pub use script::{Script, ScriptItem, ScriptWord};
+pub use script_refused::ScriptRefused;
+pub use status::{Reason, Status};
+
+mod line_refused;
+mod lines;
+mod members;
+pub mod reading;
+pub mod script;
+pub mod script_refused;
+pub mod status;
+mod words;

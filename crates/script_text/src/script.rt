@@ -1,0 +1,86 @@
+//! What a script asks.
+ghost use Rattle.std.specs.Prelude.{◌≡◌};
+ghost use Rattle.script_text.specs.Script.{is_built};
+
+use contract_types::Setup;
+use region_map::{Key, NodeId};
+use register_laws::{Op, OpId};
+use std::marker::Model;
+
+/// What one line of a script asks.
+#[derive(Debug, Drop)]
+pub enum ScriptWord {
+    /// A client asks a node for an operation on a key.
+    Request {
+        op: OpId,
+        node: NodeId,
+        key: Key,
+        what: Op,
+    },
+    /// The client at a node no longer waits for its operation.
+    GiveUp { node: NodeId, op: OpId },
+    /// The network brings the message of this number to the node that it is for.
+    Deliver { message: u64 },
+    /// The network loses the message of this number.
+    Lose { message: u64 },
+    /// The network brings every waiting message.
+    Flush,
+}
+
+/// A word with the number of its line, from 1.
+#[derive(Debug, Drop)]
+pub struct ScriptItem {
+    pub line: u64,
+    pub word: ScriptWord,
+}
+
+/// A script that was read: what the table begins with, and the words in order.
+#[derive(Debug, Drop)]
+pub struct Script {
+    setup: Setup,
+    items: Vec<ScriptItem>,
+}
+
+impl Model for Script {
+    ghost use Rattle.script_text.specs.Script.{ScriptState};
+
+    ghost Value = { ScriptState };
+
+    ghost view = { λ a. record { setup = a.setup; items = a.items.items } };
+}
+
+impl ScriptWord {
+    /// Whether the programs play this word today.
+    pub fn is_built(&self) -> bool
+        ensures { result ≡ is_built self.now }
+    {
+        match self {
+            ScriptWord::Request { what, .. } => matches!(what, Op::Put(_)),
+            ScriptWord::Deliver { .. } => true,
+            _ => false,
+        }
+    }
+}
+
+impl Script {
+    /// A script of this setup and these words.
+    pub fn new(setup: Setup, items: Vec<ScriptItem>) -> Script
+        ensures { result ≡ record { setup = setup; items = items.items } }
+    {
+        Script { setup, items }
+    }
+
+    /// What the table begins with.
+    pub fn setup(&self) -> Setup
+        ensures { result ≡ self.now.setup }
+    {
+        self.setup
+    }
+
+    /// The words in order.
+    pub fn items(&self) -> &[ScriptItem]
+        ensures { result.now ≡ self.now.items }
+    {
+        self.items.as_slice()
+    }
+}
