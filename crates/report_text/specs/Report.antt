@@ -1,0 +1,154 @@
+-- The report: one line a fact, each ending with LF.
+use Rattle.std.specs.Prelude.{ℕ, Bool, true, false, codes, List, [], ◌∷◌, ◌++◌, map, filter, Option, Some, None, if◌then◌else◌}
+use Rattle.std.specs.Fmt.{decimal}
+use Rattle.std.specs.Str.{is_utf8}
+use Rattle.std.specs.Ordering.{nat_cmp}
+use Rattle.std.specs.Cmp.Lexicographic.{slice_cmp}
+use Rattle.std.specs.BTreeSet.{insert_key}
+use Rattle.serde_json.specs.Data.{string}
+use Rattle.serde_json.specs.Written.{compact_text}
+use Rattle.region_map.specs.declared.id.Id.{Id}
+use Rattle.register_laws.specs.declared.operation.OpId.{OpId}
+use Rattle.register_laws.specs.declared.operation.Op.{Op}
+use Rattle.register_laws.specs.declared.operation.Reply.{Reply}
+use Rattle.register_laws.specs.declared.operation.Reply.TheVariants.{Was, Swapped, Kept}
+use Rattle.register_laws.specs.declared.operation.Told.{Told}
+use Rattle.contract_types.specs.Setup.{SetupState}
+use Rattle.contract_types.specs.declared.counts.Counts.{Counts}
+use Rattle.contract_types.specs.declared.limits.Which.{Which}
+use Rattle.contract_types.specs.declared.limits.Which.TheVariants.{ScriptBytes, LineBytes, JournalEntries, JournalWeight, Numbers}
+use Rattle.exec_types.specs.declared.outcome.Outcome.{Outcome}
+use Rattle.exec_types.specs.declared.outcome.Outcome.TheVariants.{Done, NotServing, NoMajority}
+use Rattle.node_core.specs.declared.journal.Entry.{Entry}
+use Rattle.world_core.specs.Run.{is_requested}
+use Rattle.world_core.specs.Story.{answer, story}
+use Rattle.script_text.specs.declared.script.ScriptWord.{ScriptWord}
+use Rattle.script_text.specs.declared.script.ScriptWord.TheVariants.{Request, GiveUp, Deliver, Lose, Flush}
+use Rattle.script_text.specs.declared.script.ScriptItem.{ScriptItem}
+use Rattle.report_text.specs.declared.ending.EventRefused.{EventRefused}
+use Rattle.report_text.specs.declared.ending.EventRefused.TheVariants.{NoSuchMessage}
+use Rattle.report_text.specs.declared.ending.Refusal.{Refusal}
+use Rattle.report_text.specs.declared.ending.Ending.{Ending}
+use Rattle.report_text.specs.declared.ending.Ending.TheVariants.{End, Limit}
+
+abbrev pub Text : Type 0
+Text = List ℕ
+
+-- a line of these bytes
+abbrev pub ended : Text → Text
+ended text = text ++ 10 ∷ []
+
+-- ---- values
+
+-- a text that is UTF-8 as its JSON string
+abbrev pub bytes_text : Text → Text
+bytes_text bytes = if is_utf8 bytes then compact_text (string bytes) else codes "bytes"
+
+abbrev pub value_text : Option Text → Text
+value_text None = codes "none"
+value_text (Some bytes) = bytes_text bytes
+
+abbrev pub reply_text : Reply → Text
+reply_text (Was value) = value_text value
+reply_text Swapped = codes "swapped"
+reply_text (Kept value) = codes "kept " ++ value_text value
+
+abbrev pub id_text : Id → Text
+id_text id = decimal id.node.0 ++ codes "." ++ decimal id.life ++ codes "." ++ decimal id.counter
+
+-- ---- operations
+
+abbrev pub pair_text : ℕ → ℕ → Text
+pair_text counted of = decimal counted ++ codes " of " ++ decimal of
+
+abbrev pub temp_text : Option (ℕ × ℕ) → Text
+temp_text None = []
+temp_text (Some c) = codes " temp " ++ pair_text c.0 c.1
+
+abbrev pub counts_text : Counts → Text
+counts_text counts = codes "voters " ++ pair_text counts.voters counts.of ++ temp_text counts.temp
+
+-- what became of an operation that was answered
+abbrev pub outcome_text : Outcome → Text
+outcome_text (Done reply branch timestamp) = codes "done " ++ reply_text reply ++ codes " " ++ id_text branch ++ codes ":" ++ decimal timestamp
+outcome_text NotServing = codes "unavailable not_serving"
+outcome_text (NoMajority counts) = codes "unavailable no_majority " ++ counts_text counts
+
+-- an operation that was not answered is open where it was requested, and else was not sent
+abbrev pub fate_text : Option Outcome → Bool → Text
+fate_text None requested = if requested then codes "open" else codes "unsent"
+fate_text (Some outcome) requested = outcome_text outcome
+
+abbrev pub op_line : List Entry → OpId → Text
+op_line past op = ended (codes "op " ++ decimal op.0 ++ codes " " ++ fate_text (answer past op) (is_requested past op))
+
+-- the line of a word that asks for an operation, before others
+abbrev pub with_op_line : List Entry → ScriptWord → List Text → List Text
+with_op_line past (Request op node key what) rest = op_line past op ∷ rest
+with_op_line past (GiveUp node op) rest = rest
+with_op_line past (Deliver message) rest = rest
+with_op_line past (Lose message) rest = rest
+with_op_line past Flush rest = rest
+
+abbrev pub op_lines : List Entry → List ScriptItem → List Text
+op_lines past [] = []
+op_lines past (item ∷ items) = with_op_line past item.word (op_lines past items)
+
+-- ---- refused events
+
+abbrev pub event_refused_text : EventRefused → Text
+event_refused_text NoSuchMessage = codes "no_such_message"
+
+abbrev pub refusal_line : Refusal → Text
+refusal_line refusal = ended (codes "refused " ++ decimal refusal.line ++ codes " " ++ event_refused_text refusal.reason)
+
+-- ---- stories
+
+-- the keys that the words name, with that of one more word, in rising order and each once
+abbrev pub with_key : List Text → ScriptWord → List Text
+with_key keys (Request op node key what) = insert_key (slice_cmp nat_cmp) keys key
+with_key keys (GiveUp node op) = keys
+with_key keys (Deliver message) = keys
+with_key keys (Lose message) = keys
+with_key keys Flush = keys
+
+abbrev pub keys_from : List Text → List ScriptItem → List Text
+keys_from keys [] = keys
+keys_from keys (item ∷ items) = keys_from (with_key keys item.word) items
+
+abbrev pub told_text : List Told → Text
+told_text [] = []
+told_text (t ∷ ts) = codes " " ++ decimal t.op.0 ++ told_text ts
+
+abbrev pub story_line : List Entry → Text → Text
+story_line past key = ended (codes "story " ++ bytes_text key ++ told_text (story past key))
+
+-- ---- the whole
+
+abbrev pub which_text : Which → Text
+which_text ScriptBytes = codes "script_bytes"
+which_text LineBytes = codes "line_bytes"
+which_text JournalEntries = codes "journal_entries"
+which_text JournalWeight = codes "journal_weight"
+which_text Numbers = codes "numbers"
+
+abbrev pub limit_line : Which → ℕ → Text
+limit_line which number = ended (codes "limit " ++ which_text which ++ codes " " ++ decimal number)
+
+abbrev pub ending_line : Ending → Text
+ending_line End = ended (codes "end")
+ending_line (Limit which number) = limit_line which number
+
+abbrev pub header_line : SetupState → Text
+header_line setup = ended (codes "table nodes " ++ decimal setup.nodes ++ codes " hash " ++ decimal setup.hashes ++ codes " shards 1")
+
+-- the lines of the report of a script, its journal, the events that were refused, and how the run ended
+abbrev pub report : SetupState → List ScriptItem → List Entry → List Refusal → Ending → List Text
+report setup items past refused ending =
+    header_line setup
+    ∷ (op_lines past items ++ map refusal_line refused ++ map (story_line past) (keys_from [] items) ++ ending_line ending ∷ [])
+
+-- the bytes of some lines
+abbrev pub joined : List Text → Text
+joined [] = []
+joined (line ∷ lines) = line ++ joined lines
