@@ -1,6 +1,6 @@
 -- A primary's execution of a contract, and its rows.
-use Rattle.std.specs.Prelude.{ℕ, ◌==◌, ◌+◌, ◌-◌, ◌^◌, Bool, true, false, ◌&&◌, ◌||◌, nat_lt, nat_le, max, min, List, [], ◌∷◌, ◌++◌, map, filter, Option, Some, None, is_some, if◌then◌else◌}
-use Rattle.std.specs.List.{list_any}
+use Rattle.std.specs.Prelude.{◌≡◌, ℕ, ◌==◌, ◌+◌, ◌-◌, ◌^◌, ◌<◌, Bool, true, ◌&&◌, ◌||◌, nat_lt, nat_le, max, min, List, [], ◌∷◌, ◌++◌, map, filter, Option, Some, None, if◌then◌else◌}
+use Rattle.std.specs.List.{All, list_any}
 use Rattle.region_map.specs.declared.id.NodeId.{NodeId}
 use Rattle.region_map.specs.declared.id.Id.{Id}
 use Rattle.register_laws.specs.declared.operation.OpId.{OpId}
@@ -12,13 +12,13 @@ use Rattle.exec_types.specs.declared.message.Got.{Got}
 use Rattle.exec_types.specs.declared.message.Part.{Part}
 use Rattle.exec_types.specs.declared.message.Part.TheVariants.{Write, Sync}
 use Rattle.exec_types.specs.declared.message.Message.TheVariants as message
-use Rattle.exec_types.specs.declared.outcome.Outcome.TheVariants.{Done, NotServing, NoMajority}
+use Rattle.exec_types.specs.declared.outcome.Outcome.TheVariants.{Done, NoMajority}
 use Rattle.exec_types.specs.declared.output.Output.{Output}
 use Rattle.exec_types.specs.declared.output.Output.TheVariants.{Message, Dispatched, Answer}
 use Rattle.exec_types.specs.Sessions.{same_session}
 use Rattle.store_plain.specs.Rows.{Rows, with_row, value_of}
 use Rattle.write_dispatch.specs.declared.decided.Decided.{Decided}
-use Rattle.write_dispatch.specs.Dispatch.{DispatchState, with_pending, with_ack, counts_of, is_decided, pending_of, without_op}
+use Rattle.write_dispatch.specs.Dispatch.{DispatchState, Acks, with_pending, with_ack, all_below, counts_of, is_decided, pending_of, without_op}
 use Rattle.primary_exec.specs.declared.session.Session.{Session}
 
 -- a started execution: its contract, the branch that it writes, the last timestamp that it took, what is
@@ -36,6 +36,20 @@ pub record PrimaryStep : Type 0 where
   pub execution : Execution
   pub rows : Rows
   pub outs : List Output
+
+-- no timestamp and no number of a part reaches the end of the numbers, and what waits took its timestamp already
+pub record IsSound (last : ℕ) (waiting : List Decided) (sessions : List Session) : Type 0 where
+  pub numbers : last < 2 ^ 62
+  pub waiting_below : all_below (last + 1) waiting ≡ true
+  pub parts : All (λ (s : Session). s.sent < 2 ^ 62) sessions
+
+-- a secondary that has part 1 of its session, and stands at timestamp 0
+abbrev pub joined : Execution → NodeId → SessionName → Execution
+joined x server name =
+    record x {
+      sessions = x.sessions ++ record { server = server; name = name; sent = 1; acked = 1 } ∷ [];
+      dispatch = record x.dispatch { acks = with_ack x.dispatch.acks server.0 0 0 };
+    }
 
 -- ---- dispatch
 
@@ -58,10 +72,14 @@ abbrev pub part_of : Option (List ℕ) → ℕ → List ℕ → Op → Part
 part_of before at key what =
     if writes before what then Write at key (record { value = state_after before what; recency = at }) else Sync at
 
+-- the rows with what a part writes
+abbrev pub with_written : Rows → Part → Rows
+with_written rows (Write at key row) = with_row rows key row
+with_written rows (Sync at) = rows
+
 -- the rows after an operation at a timestamp on the state before it
 abbrev pub rows_after : Rows → Option (List ℕ) → ℕ → List ℕ → Op → Rows
-rows_after rows before at key what =
-    if writes before what then with_row rows key (record { value = state_after before what; recency = at }) else rows
+rows_after rows before at key what = with_written rows (part_of before at key what)
 
 -- an operation takes the next timestamp, is applied to the primary's own rows, sent to the secondaries, and is
 -- pending with the register's reply
@@ -69,20 +87,24 @@ abbrev pub dispatch_row : Execution → Rows → OpId → List ℕ → Op → Pr
 dispatch_row x rows op key what =
     record {
       execution =
-        record x {
-          last = x.last + 1;
-          dispatch = with_pending x.dispatch (Some op) (x.last + 1) (reply_of (value_of rows key) what);
-          sessions = map with_sent (filter has_room x.sessions);
-        };
+          record x {
+            last = x.last + 1;
+            dispatch = with_pending x.dispatch (Some op) (x.last + 1) (reply_of (value_of rows key) what);
+            sessions = map with_sent (filter has_room x.sessions);
+          };
       rows = rows_after rows (value_of rows key) (x.last + 1) key what;
       outs =
-        map (sends (part_of (value_of rows key) (x.last + 1) key what)) (filter has_room x.sessions)
-        ++ Dispatched op key x.branch (x.last + 1) ∷ [];
+          map (sends (part_of (value_of rows key) (x.last + 1) key what)) (filter has_room x.sessions)
+          ++ Dispatched op key x.branch (x.last + 1) ∷ [];
     }
+
+-- the next part of a session that has room would have a number that no part reaches
+abbrev pub parts_end_numbers : List Session → Bool
+parts_end_numbers sessions = list_any (λ s. has_room s && nat_le (2 ^ 62) (s.sent + 1)) sessions
 
 -- the timestamp or the number of a part would be one that none reaches
 abbrev pub dispatch_ends_numbers : Execution → Bool
-dispatch_ends_numbers x = nat_le (2 ^ 62) (x.last + 1) || list_any (λ s. nat_le (2 ^ 62) (s.sent + 1)) (filter has_room x.sessions)
+dispatch_ends_numbers x = nat_le (2 ^ 62) (x.last + 1) || parts_end_numbers x.sessions
 
 -- ---- acknowledgements
 
@@ -90,8 +112,11 @@ dispatch_ends_numbers x = nat_le (2 ^ 62) (x.last + 1) || list_any (λ s. nat_le
 abbrev pub is_session : NodeId → SessionName → Session → Bool
 is_session from name session = (session.server.0 == from.0) && same_session session.name name
 
+abbrev pub is_any_session : NodeId → SessionName → List Session → Bool
+is_any_session from name sessions = list_any (is_session from name) sessions
+
 abbrev pub is_live : Execution → NodeId → SessionName → Bool
-is_live x from name = list_any (is_session from name) x.sessions
+is_live x from name = is_any_session from name x.sessions
 
 abbrev pub with_acked : NodeId → SessionName → ℕ → Session → Session
 with_acked from name upto session =
@@ -119,14 +144,21 @@ abbrev pub decides : Execution → Decided → Bool
 decides x d = is_decided x.dispatch.acks x.contract x.me.0 d.at
 
 -- the answers to the pending operations that are decided, in the order of their timestamps
-abbrev pub decided_answers : Execution → List Decided → List Output
-decided_answers x [] = []
-decided_answers x (d ∷ ds) = if decides x d then answers x.branch d d.op ++ decided_answers x ds else []
+abbrev pub answers_under : Acks → Contract → ℕ → Id → List Decided → List Output
+answers_under acks contract me branch [] = []
+answers_under acks contract me branch (d ∷ ds) =
+    if is_decided acks contract me d.at then answers branch d d.op ++ answers_under acks contract me branch ds else []
 
 -- what is pending once they are answered
+abbrev pub undecided_under : Acks → Contract → ℕ → List Decided → List Decided
+undecided_under acks contract me [] = []
+undecided_under acks contract me (d ∷ ds) = if is_decided acks contract me d.at then undecided_under acks contract me ds else d ∷ ds
+
+abbrev pub decided_answers : Execution → List Decided → List Output
+decided_answers x ds = answers_under x.dispatch.acks x.contract x.me.0 x.branch ds
+
 abbrev pub undecided : Execution → List Decided → List Decided
-undecided x [] = []
-undecided x (d ∷ ds) = if decides x d then undecided x ds else d ∷ ds
+undecided x ds = undecided_under x.dispatch.acks x.contract x.me.0 ds
 
 abbrev pub decided : Execution → Execution
 decided x = record x { dispatch = record x.dispatch { waiting = undecided x x.dispatch.waiting } }
@@ -137,13 +169,18 @@ decide_outs x = decided_answers x x.dispatch.waiting
 
 -- ---- giving up
 
-abbrev pub given_up : Execution → OpId → Option Decided → List Output
-given_up x op None = []
-given_up x op (Some d) = Answer op (NoMajority (counts_of x.dispatch.acks x.contract x.me.0 d.at)) ∷ []
+-- the answer to a pending operation that is given up: its counts, which are no majorities
+abbrev pub given_up : Acks → Contract → ℕ → OpId → Option Decided → List Output
+given_up acks c me op None = []
+given_up acks c me op (Some d) = if is_decided acks c me d.at then [] else Answer op (NoMajority (counts_of acks c me d.at)) ∷ []
 
--- the operation is no longer pending, and is answered with its counts
+-- it is no longer pending; one that is decided is answered Done and not given up, but none is pending between steps
+abbrev pub without_given_up : DispatchState → Contract → ℕ → OpId → Option Decided → DispatchState
+without_given_up p c me op None = p
+without_given_up p c me op (Some d) = if is_decided p.acks c me d.at then p else record p { waiting = without_op p.waiting op }
+
 abbrev pub give_up_outs : Execution → OpId → List Output
-give_up_outs x op = given_up x op (pending_of x.dispatch.waiting op)
+give_up_outs x op = given_up x.dispatch.acks x.contract x.me.0 op (pending_of x.dispatch.waiting op)
 
 abbrev pub give_up_row : Execution → OpId → Execution
-give_up_row x op = record x { dispatch = record x.dispatch { waiting = without_op x.dispatch.waiting op } }
+give_up_row x op = record x { dispatch = without_given_up x.dispatch x.contract x.me.0 op (pending_of x.dispatch.waiting op) }

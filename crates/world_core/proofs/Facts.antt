@@ -1,6 +1,6 @@
 -- What holds of the history of a run, and how one more entry keeps it.
-use Rattle.std.proofs.Common.{◌≡◌, ◌≢◌, ℕ, ◌+◌, ◌≤◌, ◌==◌, Bool, true, false, cond, not, ◌&&◌, ◌||◌, List, [], ◌∷◌, ◌++◌, map, filter, Option, Some, None, refl, sym, ap, ap₂, ◌∙◌, subst, ◌⊎◌, inl, inr, arith}
-use Rattle.std.proofs.lemmas.Bool.{false≢true, true≢false, eqb-true, eq-eqb, or_left, or_right, or_cases}
+use Rattle.std.proofs.Common.{◌≡◌, ◌≢◌, ℕ, ◌+◌, ◌≤◌, true, false, cond, not, List, [], ◌∷◌, ◌++◌, filter, Option, Some, None, refl, sym, ap, ◌∙◌, subst, ◌⊎◌, inl, inr, arith}
+use Rattle.std.proofs.lemmas.Bool.{false≢true, eqb-true, eq-eqb, or_left, or_right, or_cases}
 use Rattle.std.specs.List.{AllByRecursion}
 use Rattle.region_map.specs.declared.id.Id.{Id}
 use Rattle.register_laws.specs.declared.operation.OpId.{OpId}
@@ -81,10 +81,13 @@ path-cons past e key = filter-append (is_on_path key) (points past) (points_of e
 
 pub Waits-more : (past : List Entry) (e : Entry) (op : Option OpId) (reply : Reply) → Waits past op reply → Waits (e ∷ past) op reply
 Waits-more past e None reply h = tt
-Waits-more past e (Some op) reply h =
-    (h.0, h.1, inr h.2,
-     subst (λ (l : List Point). TookEffect l op h.1 reply) (sym (path-cons past e h.0))
-     (TookEffect-more (path past h.0) op h.1 reply (filter (is_on_path h.0) (points_of e.input e.outputs)) h.3))
+Waits-more past e (Some op) reply h = (
+  h.0,
+  h.1,
+  inr h.2,
+  subst (λ (l : List Point). TookEffect l op h.1 reply) (sym (path-cons past e h.0))
+      (TookEffect-more (path past h.0) op h.1 reply (filter (is_on_path h.0) (points_of e.input e.outputs)) h.3),
+)
 
 pub WaitsWell-more : (past : List Entry) (e : Entry) (ds : List Decided) → AllByRecursion (WaitsWell past) ds → AllByRecursion (WaitsWell (e ∷ past)) ds
 WaitsWell-more past e [] h = tt
@@ -140,9 +143,9 @@ History-once past e h a op =
     elim (point_times_or (points past) op) [
       | inl z ↦ omega (arith, sum, old, new, z)
       | inr p ↦ elim (point_times_or (points_of e.input e.outputs) op) [
-          | inl z ↦ omega (arith, sum, old, new, z)
-          | inr q ↦ absurd (twice past e h a op p.0 q.0 p.1 p.2 q.1 q.2)
-        ]
+        | inl z ↦ omega (arith, sum, old, new, z)
+        | inr q ↦ absurd (twice past e h a op p.0 q.0 p.1 p.2 q.1 q.2)
+      ]
     ]
 
 History-answered : (past : List Entry) (e : Entry) → History past → Adds past e → (op : OpId) → is_answered (e ∷ past) op ≡ true → is_requested (e ∷ past) op ≡ true

@@ -1,10 +1,10 @@
 -- Operations that did not overlap stand in their order.
-use Rattle.std.proofs.Common.{◌≡◌, ℕ, Bool, true, false, ◌&&◌, ◌||◌, List, [], ◌∷◌, ◌++◌, filter, refl, sym, ap, ◌∙◌, subst, ◌⊎◌, inl, inr}
+use Rattle.std.proofs.Common.{◌≡◌, Bool, true, ◌&&◌, List, [], ◌∷◌, ◌++◌, filter, sym, ap, ◌∙◌, inl, inr}
 use Rattle.std.proofs.lemmas.Bool.{false≢true, or_left, or_right, or_cases, and_parts}
 use Rattle.register_laws.specs.declared.operation.OpId.{OpId}
 use Rattle.node_core.specs.declared.journal.Entry.{Entry}
 use Rattle.world_core.specs.Run.{requests, is_requested}
-use Rattle.world_core.specs.Story.{Point, IsIn, is_answered, goes_before, points, points_of}
+use Rattle.world_core.specs.Story.{Point, is_answered, goes_before, points, points_of}
 use Rattle.world_core.proofs.Told.{has_point, point_before, has_point-append, point_before-left, point_before-across, filter-append, IsIn-filter}
 use Rattle.world_core.proofs.Facts.{History, History-nil, History-more, Adds, Requests-test, IsRequested-test, has_point_of, fresh_apart}
 
@@ -22,9 +22,10 @@ goes_before_requested [] h a b g = absurd (false≢true g)
 goes_before_requested (e ∷ past) h a b g =
     elim (or_cases (requests e.input b && is_answered past a) (goes_before past a b) g) [
       | inl now ↦
-          let both = and_parts (requests e.input b) (is_answered past a) now in
-          (or_right (requests e.input a) (is_requested past a) ((History-along past h.1).answered a both.1),
-           or_left (requests e.input b) (is_requested past b) both.0)
+          let both = and_parts (requests e.input b) (is_answered past a) now in (
+            or_right (requests e.input a) (is_requested past a) ((History-along past h.1).answered a both.1),
+            or_left (requests e.input b) (is_requested past b) both.0,
+          )
       | inr earlier ↦
           let both = goes_before_requested past h.1 a b earlier in
           (or_right (requests e.input a) (is_requested past a) both.0, or_right (requests e.input b) (is_requested past b) both.1)
@@ -52,19 +53,19 @@ in_order q (e ∷ past) h a b g i j =
     let parts : filter q (points (e ∷ past)) ≡ old ++ new = filter-append q (points past) (points_of e.input e.outputs) in
     let known = History-along past h.1 in
     let here = λ (op : OpId) (has : has_point (filter q (points (e ∷ past))) op ≡ true).
-            or_cases (has_point old op) (has_point new op) (sym (has_point-append old new op) ∙ (ap (λ (l : List Point). has_point l op) (sym parts) ∙ has)) in
+    or_cases (has_point old op) (has_point new op) (sym (has_point-append old new op) ∙ (ap (λ (l : List Point). has_point l op) (sym parts) ∙ has)) in
     let apart = λ (op : OpId) (r : is_requested past op ≡ true) (n : has_point new op ≡ true). fresh_apart past e.input op h.0.fresh (new_point q past e h.0 op n) r in
     let goal : point_before (old ++ new) a b ≡ true =
-            elim (or_cases (requests e.input b && is_answered past a) (goes_before past a b) g) [
-              | inl now ↦
-                  let both = and_parts (requests e.input b) (is_answered past a) now in
-                  let a_old : has_point old a ≡ true = elim (here a i) [ inl o ↦ o | inr n ↦ absurd (apart a (known.answered a both.1) n) ] in
-                  let b_new : has_point new b ≡ true = elim (here b j) [ inl o ↦ absurd (fresh_apart past e.input b h.0.fresh both.0 (old_point q past known b o)) | inr n ↦ n ] in
-                  point_before-across old new a b a_old b_new
-              | inr earlier ↦
-                  let both = goes_before_requested past h.1 a b earlier in
-                  let a_old : has_point old a ≡ true = elim (here a i) [ inl o ↦ o | inr n ↦ absurd (apart a both.0 n) ] in
-                  let b_old : has_point old b ≡ true = elim (here b j) [ inl o ↦ o | inr n ↦ absurd (apart b both.1 n) ] in
-                  point_before-left old new a b (in_order q past h.1 a b earlier a_old b_old)
-            ] in
+    elim (or_cases (requests e.input b && is_answered past a) (goes_before past a b) g) [
+      | inl now ↦
+          let both = and_parts (requests e.input b) (is_answered past a) now in
+          let a_old : has_point old a ≡ true = elim (here a i) [ inl o ↦ o | inr n ↦ absurd (apart a (known.answered a both.1) n) ] in
+          let b_new : has_point new b ≡ true = elim (here b j) [ inl o ↦ absurd (fresh_apart past e.input b h.0.fresh both.0 (old_point q past known b o)) | inr n ↦ n ] in
+          point_before-across old new a b a_old b_new
+      | inr earlier ↦
+          let both = goes_before_requested past h.1 a b earlier in
+          let a_old : has_point old a ≡ true = elim (here a i) [ inl o ↦ o | inr n ↦ absurd (apart a both.0 n) ] in
+          let b_old : has_point old b ≡ true = elim (here b j) [ inl o ↦ o | inr n ↦ absurd (apart b both.1 n) ] in
+          point_before-left old new a b (in_order q past h.1 a b earlier a_old b_old)
+    ] in
     ap (λ (l : List Point). point_before l a b) parts ∙ goal

@@ -1,5 +1,5 @@
 -- What the outputs of a step say: their points and their answers.
-use Rattle.std.proofs.Common.{◌≡◌, ℕ, ◌+◌, Bool, true, false, cond, ◌&&◌, List, [], ◌∷◌, ◌++◌, map, nat_le, Option, Some, None, refl, sym, ap, ◌∙◌, subst}
+use Rattle.std.proofs.Common.{◌≡◌, ℕ, true, false, cond, List, [], ◌∷◌, ◌++◌, map, nat_le, Option, Some, None, refl, sym, ap, ◌∙◌, subst}
 use Rattle.std.proofs.lemmas.Bool.{cond_both, false≢true}
 use Rattle.std.specs.List.{AllByRecursion}
 use Rattle.region_map.specs.declared.id.Id.{Id}
@@ -11,7 +11,7 @@ use Rattle.register_laws.specs.Lists.{same_op}
 use Rattle.exec_types.specs.declared.message.Part.{Part}
 use Rattle.exec_types.specs.declared.message.Stream.{Stream}
 use Rattle.exec_types.specs.declared.outcome.Outcome.{Outcome}
-use Rattle.exec_types.specs.declared.outcome.Outcome.TheVariants.{Done, NotServing, NoMajority}
+use Rattle.exec_types.specs.declared.outcome.Outcome.TheVariants.{Done}
 use Rattle.exec_types.specs.declared.output.Output.{Output}
 use Rattle.exec_types.specs.declared.output.Output.TheVariants.{Message, Dispatched, Answer}
 use Rattle.store_plain.specs.Rows.{Rows}
@@ -22,7 +22,7 @@ use Rattle.primary_exec.specs.Execution.{Execution, sends, answers, decides, dec
 use Rattle.secondary_exec.specs.declared.following.Following.{Following}
 use Rattle.secondary_exec.specs.Stream.{FollowingStep, stream_row, is_ours, take_part, is_next, applied, with_part, acknowledgement, quiet}
 use Rattle.node_core.specs.declared.journal.Entry.{Entry}
-use Rattle.world_core.specs.Run.{requests, is_requested}
+use Rattle.world_core.specs.Run.{is_requested}
 use Rattle.world_core.specs.Story.{Point, answer_in, or_else, points_in}
 use Rattle.world_core.proofs.Facts.{same_op-true, IsRequested-test, Waits, WaitsWell, SaysWell}
 
@@ -127,8 +127,8 @@ pub answer_in-stream : (f : Following) (rows : Rows) (from : NodeId) (stream : S
 answer_in-stream f rows from stream view op =
     cond_both (is_ours f from stream) (take_part f rows stream view) (quiet f rows) (λ (s : FollowingStep). answer_in s.outs op ≡ None)
     (λ _.
-       cond_both (nat_le stream.number f.got) (record { following = f; rows = rows; outs = acknowledgement f view ∷ [] })
-       (cond (is_next f stream) (record { following = applied f stream; rows = with_part rows stream.part; outs = acknowledgement (applied f stream) view ∷ [] }) (quiet f rows))
-       (λ (s : FollowingStep). answer_in s.outs op ≡ None) (λ _. refl)
-       (λ _. cond_both (is_next f stream) (record { following = applied f stream; rows = with_part rows stream.part; outs = acknowledgement (applied f stream) view ∷ [] }) (quiet f rows) (λ (s : FollowingStep). answer_in s.outs op ≡ None) (λ _. refl) (λ _. refl)))
+    cond_both (nat_le stream.number f.got) (record { following = f; rows = rows; outs = acknowledgement f view ∷ [] })
+    (cond (is_next f stream) (record { following = applied f stream; rows = with_part rows stream.part; outs = acknowledgement (applied f stream) view ∷ [] }) (quiet f rows))
+    (λ (s : FollowingStep). answer_in s.outs op ≡ None) (λ _. refl)
+    (λ _. cond_both (is_next f stream) (record { following = applied f stream; rows = with_part rows stream.part; outs = acknowledgement (applied f stream) view ∷ [] }) (quiet f rows) (λ (s : FollowingStep). answer_in s.outs op ≡ None) (λ _. refl) (λ _. refl)))
     (λ _. refl)

@@ -1,7 +1,6 @@
 -- Each key's story is a register story.
-use Rattle.std.proofs.Common.{◌≡◌, ◌≢◌, ℕ, ◌+◌, ◌≤◌, Bool, true, false, cond, not, ◌&&◌, ◌||◌, List, [], ◌∷◌, ◌++◌, map, filter, Option, Some, None, refl, sym, ap, ap₂, ◌∙◌, subst, ◌⊎◌, inl, inr, arith, append_assoc, append-nil}
-use Rattle.std.proofs.lemmas.Bool.{false≢true, or_left, or_right, or_cases, or_parts, not-false, eqb-true, and_parts}
-use Rattle.std.specs.Cmp.Lexicographic.{pointwise}
+use Rattle.std.proofs.Common.{◌≡◌, ◌≢◌, ℕ, ◌+◌, ◌≤◌, Bool, true, false, cond, not, ◌&&◌, ◌||◌, List, [], ◌∷◌, ◌++◌, filter, Some, None, refl, sym, ap, ap₂, ◌∙◌, subst, inl, inr, arith, append_assoc, append-nil}
+use Rattle.std.proofs.lemmas.Bool.{false≢true, or_left, or_right, or_parts, not-false, eqb-true, and_parts}
 use Rattle.region_map.specs.declared.id.Id.{Id}
 use Rattle.register_laws.specs.declared.operation.OpId.{OpId}
 use Rattle.register_laws.specs.declared.operation.Op.{Op}
@@ -11,14 +10,12 @@ use Rattle.register_laws.specs.Lists.{is_read, same_op}
 use Rattle.exec_types.specs.Sessions.{same_id}
 use Rattle.exec_types.specs.declared.input.Input.{Input}
 use Rattle.exec_types.specs.declared.input.Input.TheVariants.{Request, GiveUp, Deliver}
-use Rattle.exec_types.specs.declared.outcome.Outcome.{Outcome}
-use Rattle.exec_types.specs.declared.outcome.Outcome.TheVariants.{Done, NotServing, NoMajority}
+use Rattle.exec_types.specs.declared.outcome.Outcome.TheVariants.{Done, NotServing}
 use Rattle.node_core.specs.declared.journal.Entry.{Entry}
 use Rattle.node_core.specs.Step.{first_id}
-use Rattle.world_core.specs.Run.{requests, is_requested}
-use Rattle.world_core.specs.Story.{Point, call_of, IsIn, times, has_told, StandsOnce, stands_before, answer_in, or_else, answer, is_done_outcome, is_done, goes_before, points, points_of, same_key, is_on_path, path, is_shown, is_shown_point, is_shown_told, story, Requests, IsRequested, keep_done, up_to_done, KeepsDone, IsRegisterStory}
-use Rattle.world_core.proofs.Told.{after, told, legal_told, told-append, LeavesReads, at_point, at_told, told-filter, filter-append, filter-filter, filter_stricter, IsIn-append, IsIn-filter, IsIn-told, point_times, times-told, point_times-filter, has_point, has_told-told, stands_before-told, point_before, TookEffect, TookEffect-told}
-use Rattle.world_core.proofs.Facts.{same_op-true, same_op-refl, Requests-test, IsRequested-test, fresh_apart, History, Adds, Waits}
+use Rattle.world_core.specs.Story.{Point, IsIn, times, has_told, StandsOnce, stands_before, answer_in, or_else, answer, is_done_outcome, is_done, goes_before, points, points_of, same_key, is_on_path, path, is_shown, is_shown_point, story, Requests, IsRequested, keep_done, up_to_done, KeepsDone, IsRegisterStory}
+use Rattle.world_core.proofs.Told.{after, told, legal_told, told-append, LeavesReads, at_point, at_told, told-filter, filter-append, filter-filter, filter_stricter, IsIn-filter, IsIn-told, times-told, point_times-filter, has_point, has_told-told, stands_before-told, point_before, TookEffect, TookEffect-told}
+use Rattle.world_core.proofs.Facts.{same_op-refl, Requests-test, IsRequested-test, fresh_apart, History}
 use Rattle.world_core.proofs.Orders.{AddsAlong, History-along, in_order}
 
 -- ---- keys and requests
@@ -37,13 +34,13 @@ one_request [] h op key k what w r s = absurd r
 one_request (e ∷ past) h op key k what w r s =
     elim r [
       | inl new ↦ elim s [
-          | inl new' ↦ same e.input op key k what w new new'
-          | inr old ↦ absurd (fresh_apart past e.input op h.0.fresh (Requests-test e.input key op what new) (IsRequested-test past k op w old))
-        ]
+        | inl new' ↦ same e.input op key k what w new new'
+        | inr old ↦ absurd (fresh_apart past e.input op h.0.fresh (Requests-test e.input key op what new) (IsRequested-test past k op w old))
+      ]
       | inr old ↦ elim s [
-          | inl new ↦ absurd (fresh_apart past e.input op h.0.fresh (Requests-test e.input k op w new) (IsRequested-test past key op what old))
-          | inr old' ↦ one_request past h.1 op key k what w old old'
-        ]
+        | inl new ↦ absurd (fresh_apart past e.input op h.0.fresh (Requests-test e.input k op w new) (IsRequested-test past key op what old))
+        | inr old' ↦ one_request past h.1 op key k what w old old'
+      ]
     ]
   where
     same : (input : Input) (op : OpId) (key k : List ℕ) (what w : Op) → Requests input key op what → Requests input k op w → (key ≡ k) × (what ≡ w)
@@ -115,7 +112,7 @@ story_done past h key op what reply branch timestamp r a =
     let w = known.done op reply branch timestamp a in
     let same = one_request past h op w.0 key w.1 what w.2 r in
     let took : TookEffect (path past key) op what reply =
-            subst (λ (k : List ℕ). TookEffect (path past k) op what reply) same.0 (subst (λ (v : Op). TookEffect (path past w.0) op v reply) same.1 w.3) in
+    subst (λ (k : List ℕ). TookEffect (path past k) op what reply) same.0 (subst (λ (v : Op). TookEffect (path past w.0) op v reply) same.1 w.3) in
     let shown : is_shown past op what ≡ true = or_right (not (is_read what)) (is_done past op) (ap is_done_outcome a) in
     let here : IsIn (story past key) (record { op = op; what = what; reply = reply }) = TookEffect-told (is_shown past) (shown_LeavesReads past) (path past key) op what reply took shown in
     (once_in past known key (record { op = op; what = what; reply = reply }) here, here)
@@ -166,18 +163,18 @@ story_prefix_at later earlier key =
     let past : List Entry = later ++ earlier in
     let q = is_shown earlier in
     let one : filter (at_told q) (story past key) ≡ told None (filter (at_point q) (filter (at_point (is_shown past)) (path past key))) =
-            told-filter q (shown_LeavesReads earlier) None (filter (at_point (is_shown past)) (path past key)) in
+    told-filter q (shown_LeavesReads earlier) None (filter (at_point (is_shown past)) (path past key)) in
     let two : filter (at_point q) (filter (at_point (is_shown past)) (path past key)) ≡ filter (at_point q) (path past key) =
-            filter_stricter (at_point q) (at_point (is_shown past)) (λ p e. shown_later later earlier p e) (path past key) in
+    filter_stricter (at_point q) (at_point (is_shown past)) (λ p e. shown_later later earlier p e) (path past key) in
     let more = points_later later earlier in
     let three : path past key ≡ path earlier key ++ filter (is_on_path key) more.0 =
-            ap (filter (is_on_path key)) more.1 ∙ filter-append (is_on_path key) (points earlier) more.0 in
+    ap (filter (is_on_path key)) more.1 ∙ filter-append (is_on_path key) (points earlier) more.0 in
     let rest : List Point = filter (at_point q) (filter (is_on_path key) more.0) in
     let four : filter (at_point q) (path past key) ≡ filter (at_point q) (path earlier key) ++ rest =
-            ap (filter (at_point q)) three ∙ filter-append (at_point q) (path earlier key) (filter (is_on_path key) more.0) in
+    ap (filter (at_point q)) three ∙ filter-append (at_point q) (path earlier key) (filter (is_on_path key) more.0) in
     let tail : List Told = told (after None (filter (at_point q) (path earlier key))) rest in
     let five : filter (at_told q) (story past key) ≡ story earlier key ++ tail =
-            one ∙ ap (told None) (two ∙ four) ∙ told-append None (filter (at_point q) (path earlier key)) rest in
+    one ∙ ap (told None) (two ∙ four) ∙ told-append None (filter (at_point q) (path earlier key)) rest in
     let cut = up_to_done_prefix earlier (story earlier key) in
     (cut.0 ++ tail, five ∙ ap (λ (l : List Told). l ++ tail) cut.1 ∙ append_assoc (up_to_done earlier (story earlier key)) cut.0 tail)
 

@@ -1,6 +1,6 @@
 -- What one step of a node adds to the history, and the invariants of the nodes.
-use Rattle.std.proofs.Common.{◌≡◌, ℕ, ◌+◌, ◌≤◌, ◌==◌, Bool, true, false, cond, not, ◌&&◌, nat_lt, List, [], ◌∷◌, ◌++◌, map, filter, Option, Some, None, refl, sym, ap, ap₂, ◌∙◌, subst, ◌⊎◌, inl, inr, arith, append-nil}
-use Rattle.std.proofs.lemmas.Bool.{false≢true, cond_both, or_right, and_parts, and_from, eqb-true, eq-eqb}
+use Rattle.std.proofs.Common.{◌≡◌, ℕ, ◌+◌, ◌≤◌, ◌==◌, Bool, true, false, cond, ◌&&◌, List, [], ◌∷◌, ◌++◌, map, filter, Option, Some, None, refl, sym, ap, ap₂, ◌∙◌, subst, inl, inr, arith, append-nil}
+use Rattle.std.proofs.lemmas.Bool.{false≢true, cond_both, or_right, and_from, eq-eqb}
 use Rattle.std.specs.List.{AllByRecursion}
 use Rattle.std.specs.Cmp.Lexicographic.{nat_list_eq_equiv}
 use Rattle.region_map.specs.declared.id.Id.{Id}
@@ -8,38 +8,39 @@ use Rattle.region_map.specs.declared.id.NodeId.{NodeId}
 use Rattle.register_laws.specs.declared.operation.OpId.{OpId}
 use Rattle.register_laws.specs.declared.operation.Op.{Op}
 use Rattle.register_laws.specs.declared.operation.Op.TheVariants.{Put, Delete, Cas, Read}
-use Rattle.register_laws.specs.declared.operation.Reply.{Reply}
-use Rattle.register_laws.specs.Register.{State, reply_of, state_after, writes, same_state}
+use Rattle.register_laws.specs.Register.{State, reply_of, state_after, writes}
 use Rattle.register_laws.specs.Lists.{same_op}
 use Rattle.contract_types.specs.Setup.{SetupState}
+use Rattle.contract_types.specs.declared.contract.Contract.{Contract}
 use Rattle.exec_types.specs.Sessions.{same_id}
 use Rattle.exec_types.specs.declared.message.Message.{Message as Sent}
 use Rattle.exec_types.specs.declared.message.Message.TheVariants as message
 use Rattle.exec_types.specs.declared.message.Got.{Got}
 use Rattle.exec_types.specs.declared.message.Part.{Part}
+use Rattle.exec_types.specs.declared.message.Part.TheVariants.{Write, Sync}
+use Rattle.store_api.specs.declared.Row.{Row}
 use Rattle.exec_types.specs.declared.input.Input.{Input}
 use Rattle.exec_types.specs.declared.input.Input.TheVariants.{Request, GiveUp, Deliver}
 use Rattle.exec_types.specs.declared.outcome.Outcome.{Outcome}
-use Rattle.exec_types.specs.declared.outcome.Outcome.TheVariants.{Done, NotServing, NoMajority}
+use Rattle.exec_types.specs.declared.outcome.Outcome.TheVariants.{NotServing, NoMajority}
 use Rattle.exec_types.specs.declared.output.Output.{Output}
-use Rattle.exec_types.specs.declared.output.Output.TheVariants.{Message, Dispatched, Answer}
-use Rattle.store_plain.specs.Rows.{Rows, row_of, with_row, value_in, value_of}
+use Rattle.exec_types.specs.declared.output.Output.TheVariants.{Dispatched, Answer}
+use Rattle.store_plain.specs.Rows.{Rows, value_in, value_of}
 use Rattle.store_plain.proofs.RowLemmas.{row_of-with_row_same, row_of-with_row_other}
 use Rattle.write_dispatch.specs.declared.decided.Decided.{Decided}
-use Rattle.write_dispatch.specs.Dispatch.{DispatchState, pending_of, without_op, counts_of}
+use Rattle.write_dispatch.specs.Dispatch.{DispatchState, Acks, is_decided, pending_of, without_op, counts_of}
 use Rattle.primary_exec.specs.declared.session.Session.{Session}
-use Rattle.primary_exec.specs.Execution.{Execution, PrimaryStep, has_room, sends, part_of, rows_after, dispatch_row, is_live, with_stands, with_acked, got_row, decided, decided_answers, undecided, decide_outs, given_up, give_up_outs, give_up_row}
+use Rattle.primary_exec.specs.Execution.{Execution, PrimaryStep, has_room, sends, part_of, with_written, rows_after, dispatch_row, is_live, with_stands, with_acked, got_row, decided, decide_outs, given_up, give_up_outs, without_given_up, give_up_row}
 use Rattle.secondary_exec.specs.declared.following.Following.{Following}
 use Rattle.node_core.specs.declared.node.Brought.{Brought}
 use Rattle.node_core.specs.declared.journal.Entry.{Entry}
-use Rattle.node_core.specs.Step.{NodeState, Stepped, first_id, begin_node, setup_execution, node_step}
-use Rattle.world_core.specs.Run.{requests, is_requested, is_fresh, brought, state, may_step, outs_of, arrives, IsStep, IsRun}
-use Rattle.world_core.specs.Story.{Point, IsIn, answer_in, or_else, points, points_in, points_of, same_key, is_on_path, path, Requests, IsRequested}
-use Rattle.world_core.proofs.Told.{after, after-append, point_times, TookEffect, TookEffect-last, filter-append}
-use Rattle.world_core.proofs.Facts.{same_op-true, Waits, WaitsWell, WaitsWell-more, path-cons, SaysWell, Says, Adds}
+use Rattle.node_core.specs.Step.{NodeState, first_id, node_step}
+use Rattle.world_core.specs.Run.{requests, is_requested, is_fresh}
+use Rattle.world_core.specs.Story.{Point, IsIn, answer_in, or_else, points_in, points_of, same_key, is_on_path, path}
+use Rattle.world_core.proofs.Told.{after, after-append, point_times, TookEffect, TookEffect-last}
+use Rattle.world_core.proofs.Facts.{same_op-true, WaitsWell, WaitsWell-more, path-cons, Adds}
 use Rattle.world_core.proofs.Outs.{points_in-append, points_in-sends, answer_in-append, answer_in-sends, points_in-decided, Answered, Answered-append, Answered-decided, undecided_keeps, without_op_keeps, all_push, KnownPending, pending_requested, answer_in-stream}
 use Rattle.world_core.proofs.RegisterStory.{same_key-true}
-use Rattle.world_core.proofs.Orders.{AddsAlong}
 
 -- ---- the primary's own rows are the values of the paths
 
@@ -59,15 +60,17 @@ keeps_state s Read e = refl
 value_of-rows_after_same : (rows : Rows) (at : ℕ) (key : List ℕ) (what : Op) → value_of (rows_after rows (value_of rows key) at key what) key ≡ state_after (value_of rows key) what
 value_of-rows_after_same rows at key what =
     let before : State = value_of rows key in
-    cond_both (writes before what) (with_row rows key (record { value = state_after before what; recency = at })) rows (λ (r : Rows). value_of r key ≡ state_after before what)
-    (λ _. ap value_in (row_of-with_row_same rows key (record { value = state_after before what; recency = at })))
+    let row : Row = record { value = state_after before what; recency = at } in
+    cond_both (writes before what) (Write at key row) (Sync at) (λ (p : Part). value_of (with_written rows p) key ≡ state_after before what)
+    (λ _. ap value_in (row_of-with_row_same rows key row))
     (λ e. sym (keeps_state before what e))
 
 value_of-rows_after_other : (rows : Rows) (at : ℕ) (key other : List ℕ) (what : Op) → same_key other key ≡ false → value_of (rows_after rows (value_of rows key) at key what) other ≡ value_of rows other
 value_of-rows_after_other rows at key other what ne =
     let before : State = value_of rows key in
-    cond_both (writes before what) (with_row rows key (record { value = state_after before what; recency = at })) rows (λ (r : Rows). value_of r other ≡ value_of rows other)
-    (λ _. ap value_in (row_of-with_row_other rows key other (record { value = state_after before what; recency = at }) ne))
+    let row : Row = record { value = state_after before what; recency = at } in
+    cond_both (writes before what) (Write at key row) (Sync at) (λ (p : Part). value_of (with_written rows p) other ≡ value_of rows other)
+    (λ _. ap value_in (row_of-with_row_other rows key other row ne))
     (λ _. refl)
 
 same_key_sym : (a b : List ℕ) → same_key a b ≡ false → same_key b a ≡ false
@@ -140,67 +143,76 @@ primary_request past node me setup rows x op key what b fresh f =
     let dispatched : Output = Dispatched op key x.branch (x.last + 1) in
     let tail : List Output = decide_outs x1 in
     let one : points_in what (sent ++ dispatched ∷ []) ≡ point ∷ [] =
-            points_in-append what sent (dispatched ∷ []) ∙ ap (λ (l : List Point). l ++ point ∷ []) (points_in-sends what part sessions) in
+    points_in-append what sent (dispatched ∷ []) ∙ ap (λ (l : List Point). l ++ point ∷ []) (points_in-sends what part sessions) in
     let pts : points_of e.input e.outputs ≡ point ∷ [] =
-            points_in-append what (sent ++ dispatched ∷ []) tail ∙ ap₂ (λ (a c : List Point). a ++ c) one (points_in-decided what x1 x1.dispatch.waiting) in
+    points_in-append what (sent ++ dispatched ∷ []) tail ∙ ap₂ (λ (a c : List Point). a ++ c) one (points_in-decided what x1 x1.dispatch.waiting) in
     let bt : same_id x.branch (first_id 0) ≡ true = branch_test x f.branch in
     let way = λ (k : List ℕ). path-cons past e k ∙ ap (λ (l : List Point). path past k ++ filter (is_on_path k) l) pts in
     let store = λ (k : List ℕ).
-            let value : after None (path (e ∷ past) k) ≡ after (value_of rows k) (filter (is_on_path k) (point ∷ [])) =
-                    ap (after None) (way k) ∙ after-append None (path past k) (filter (is_on_path k) (point ∷ [])) ∙ ap (λ (s : State). after s (filter (is_on_path k) (point ∷ []))) (sym (f.store k)) in
-            let here : value_of row.rows k ≡ after (value_of rows k) (filter (is_on_path k) (point ∷ [])) =
-                    elim (same_key key k) as (λ c. same_key key k ≡ c → value_of row.rows k ≡ after (value_of rows k) (cond (c && same_id x.branch (first_id 0)) (point ∷ []) [])) [
-                      | true ↦ λ is.
-                          subst (λ (v : List ℕ). value_of row.rows v ≡ after (value_of rows v) (cond (same_id x.branch (first_id 0)) (point ∷ []) [])) (same_key-true key k is)
-                          (value_of-rows_after_same rows (x.last + 1) key what ∙ sym (ap (λ c. after before (cond c (point ∷ []) [])) bt))
-                      | false ↦ λ ne. value_of-rows_after_other rows (x.last + 1) key k what (same_key_sym key k ne)
-                    ] refl in
-            here ∙ sym value in
+    let value : after None (path (e ∷ past) k) ≡ after (value_of rows k) (filter (is_on_path k) (point ∷ [])) =
+    ap (after None) (way k) ∙ after-append None (path past k) (filter (is_on_path k) (point ∷ [])) ∙ ap (λ (s : State). after s (filter (is_on_path k) (point ∷ []))) (sym (f.store k)) in
+    let here : value_of row.rows k ≡ after (value_of rows k) (filter (is_on_path k) (point ∷ [])) =
+    elim (same_key key k) as (λ c. same_key key k ≡ c → value_of row.rows k ≡ after (value_of rows k) (cond (c && same_id x.branch (first_id 0)) (point ∷ []) [])) [
+      | true ↦ λ is.
+          subst (λ (v : List ℕ). value_of row.rows v ≡ after (value_of rows v) (cond (same_id x.branch (first_id 0)) (point ∷ []) [])) (same_key-true key k is)
+          (value_of-rows_after_same rows (x.last + 1) key what ∙ sym (ap (λ c. after before (cond c (point ∷ []) [])) bt))
+      | false ↦ λ ne. value_of-rows_after_other rows (x.last + 1) key k what (same_key_sym key k ne)
+    ] refl in
+    here ∙ sym value in
     let d : Decided = record { op = Some op; at = x.last + 1; reply = reply_of before what } in
     let way_here : path (e ∷ past) key ≡ path past key ++ point ∷ [] =
-            way key ∙ ap₂ (λ (a c : Bool). path past key ++ cond (a && c) (point ∷ []) []) (same_key-self key) bt in
+    way key ∙ ap₂ (λ (a c : Bool). path past key ++ cond (a && c) (point ∷ []) []) (same_key-self key) bt in
     let took_here : TookEffect (path past key ++ point ∷ []) op what (reply_of before what) =
-            subst (λ (s : State). TookEffect (path past key ++ point ∷ []) op what (reply_of s what)) (sym (f.store key)) (TookEffect-last (path past key) point) in
+    subst (λ (s : State). TookEffect (path past key ++ point ∷ []) op what (reply_of s what)) (sym (f.store key)) (TookEffect-last (path past key) point) in
     let took : TookEffect (path (e ∷ past) key) op what (reply_of before what) = subst (λ (l : List Point). TookEffect l op what (reply_of before what)) (sym way_here) took_here in
     let own : WaitsWell (e ∷ past) d = record { waits = (key, what, inl (refl, refl, refl), took) } in
     let all : AllByRecursion (WaitsWell (e ∷ past)) x1.dispatch.waiting = all_push (WaitsWell (e ∷ past)) x.dispatch.waiting d (WaitsWell-more past e x.dispatch.waiting f.waiting) own in
     let none = λ (q : OpId). answer_in-append sent (dispatched ∷ []) q ∙ ap (λ (v : Option Outcome). or_else v None) (answer_in-sends part sessions q) in
     let known = λ (q : OpId).
-            Answered-append past e q (sent ++ dispatched ∷ []) tail (subst (λ (v : Option Outcome). Answered past e q v) (sym (none q)) tt) (Answered-decided past e x1 x1.dispatch.waiting q all) in
-    (record {
-       fresh = fresh;
-       new = λ p i. elim (subst (λ (l : List Point). IsIn l p) pts i) [ inl is ↦ (ap (λ (v : Point). v.op) is, ap (λ (v : Point). v.key) is, ap (λ (v : Point). v.what) is) | inr h ↦ absurd h ];
-       few = λ q. subst (λ (l : List Point). point_times l q ≤ 1) (sym pts) (at_most_one (same_op op q));
-       says = λ q outcome is. record { says = subst (λ (v : Option Outcome). Answered past e q v) is (known q) };
-     },
-     record {
-       execution = decided x1;
-       primary = refl;
-       following = refl;
-       facts = record { branch = f.branch; store = store; waiting = undecided_keeps (WaitsWell (e ∷ past)) x1 x1.dispatch.waiting all };
-     })
+    Answered-append past e q (sent ++ dispatched ∷ []) tail (subst (λ (v : Option Outcome). Answered past e q v) (sym (none q)) tt) (Answered-decided past e x1 x1.dispatch.waiting q all) in (
+      record {
+        fresh = fresh;
+        new = λ p i. elim (subst (λ (l : List Point). IsIn l p) pts i) [ inl is ↦ (ap (λ (v : Point). v.op) is, ap (λ (v : Point). v.key) is, ap (λ (v : Point). v.what) is) | inr h ↦ absurd h ];
+        few = λ q. subst (λ (l : List Point). point_times l q ≤ 1) (sym pts) (at_most_one (same_op op q));
+        says = λ q outcome is. record { says = subst (λ (v : Option Outcome). Answered past e q v) is (known q) };
+      },
+      record {
+        execution = decided x1;
+        primary = refl;
+        following = refl;
+        facts = record { branch = f.branch; store = store; waiting = undecided_keeps (WaitsWell (e ∷ past)) x1 x1.dispatch.waiting all };
+      },
+    )
   where
     at_most_one : (c : Bool) → cond c 1 0 + 0 ≤ 1
     at_most_one true = omega arith
     at_most_one false = omega arith
+
+-- giving up takes out one pending operation at most
+given_up_waiting : (P : Decided → Type 0) (p : DispatchState) (c : Contract) (me : ℕ) (op : OpId) (d : Option Decided) → AllByRecursion P p.waiting → AllByRecursion P (without_given_up p c me op d).waiting
+given_up_waiting P p c me op None h = h
+given_up_waiting P p c me op (Some d) h =
+    cond_both (is_decided p.acks c me d.at) p (record p { waiting = without_op p.waiting op }) (λ (y : DispatchState). AllByRecursion P y.waiting) (λ _. h) (λ _. without_op_keeps P op p.waiting h)
+
+given_up_answered : (past : List Entry) (e : Entry) (acks : Acks) (c : Contract) (me : ℕ) (op : OpId) (d : Option Decided) → KnownPending past op d → (q : OpId) → Answered past e q (answer_in (given_up acks c me op d) q)
+given_up_answered past e acks c me op None h q = tt
+given_up_answered past e acks c me op (Some d) h q =
+    cond_both (is_decided acks c me d.at) [] (Answer op (NoMajority (counts_of acks c me d.at)) ∷ []) (λ (l : List Output). Answered past e q (answer_in l q)) (λ _. tt)
+    (λ _. cond_both (same_op op q) (Some (NoMajority (counts_of acks c me d.at))) None (λ (v : Option Outcome). Answered past e q v)
+    (λ same. or_right (requests e.input q) (is_requested past q) (ap (is_requested past) (sym (same_op-true op q same)) ∙ h)) (λ _. tt))
 
 primary_give_up : (past : List Entry) (node me : NodeId) (setup : SetupState) (rows : Rows) (x : Execution) (op : OpId) (b : Option Brought) → PrimaryFacts past x rows
     → Adds past (step_entry node (primary_node me setup rows x) (GiveUp op) b)
     × PrimaryStays (step_entry node (primary_node me setup rows x) (GiveUp op) b ∷ past) (node_step (primary_node me setup rows x) (GiveUp op) b).node
 primary_give_up past node me setup rows x op b f =
     let e : Entry = step_entry node (primary_node me setup rows x) (GiveUp op) b in
+    let d : Option Decided = pending_of x.dispatch.waiting op in
     let x1 : Execution = give_up_row x op in
-    let w = without_op_keeps (WaitsWell past) op x.dispatch.waiting f.waiting in
+    let w = given_up_waiting (WaitsWell past) x.dispatch x.contract x.me.0 op d f.waiting in
     let all = WaitsWell-more past e x1.dispatch.waiting w in
     let known = λ (q : OpId).
-            Answered-append past e q (give_up_outs x op) (decide_outs x1) (gives (pending_of x.dispatch.waiting op) (pending_requested past op x.dispatch.waiting f.waiting) e refl q) (Answered-decided past e x1 x1.dispatch.waiting q all) in
+    Answered-append past e q (give_up_outs x op) (decide_outs x1) (given_up_answered past e x.dispatch.acks x.contract x.me.0 op d (pending_requested past op x.dispatch.waiting f.waiting) q) (Answered-decided past e x1 x1.dispatch.waiting q all) in
     (still_adds past e refl refl known, record { execution = decided x1; primary = refl; following = refl; facts = still_facts past e x x1 rows refl f refl w })
-  where
-    gives : (d : Option Decided) → KnownPending past op d → (e : Entry) → e.input ≡ GiveUp op → (q : OpId) → Answered past e q (answer_in (given_up x op d) q)
-    gives None h e i q = tt
-    gives (Some d) h e i q =
-        cond_both (same_op op q) (Some (NoMajority (counts_of x.dispatch.acks x.contract x.me.0 d.at))) None (λ (v : Option Outcome). Answered past e q v)
-        (λ same. or_right (requests e.input q) (is_requested past q) (ap (is_requested past) (sym (same_op-true op q same)) ∙ h)) (λ _. tt)
 
 -- a message changes no pending operation and no row of the primary
 primary_message : (past : List Entry) (e : Entry) (x y : Execution) (rows : Rows) → is_fresh past e.input ≡ true → points_of e.input e.outputs ≡ [] → e.outputs ≡ decide_outs y → PrimaryFacts past x rows → y.branch ≡ x.branch → y.dispatch.waiting ≡ x.dispatch.waiting

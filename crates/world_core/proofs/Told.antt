@@ -1,5 +1,5 @@
 -- Points of a path, and the register's replies to them.
-use Rattle.std.proofs.Common.{◌≡◌, ℕ, ◌+◌, ◌≤◌, Bool, true, false, cond, not, ◌&&◌, ◌||◌, List, [], ◌∷◌, ◌++◌, map, filter, Option, Some, None, refl, sym, ap, ap₂, ◌∙◌, subst, ◌⊎◌, inl, inr, arith}
+use Rattle.std.proofs.Common.{◌≡◌, ℕ, ◌+◌, ◌≤◌, Bool, true, false, cond, ◌&&◌, ◌||◌, List, [], ◌∷◌, ◌++◌, map, filter, None, refl, sym, ap, ap₂, ◌∙◌, subst, ◌⊎◌, inl, inr, arith}
 use Rattle.std.proofs.lemmas.Bool.{false≢true}
 use Rattle.register_laws.specs.declared.operation.OpId.{OpId}
 use Rattle.register_laws.specs.declared.operation.Op.{Op}
@@ -253,12 +253,12 @@ pub TookEffect-told : (q : OpId → Op → Bool) → LeavesReads q → (ps : Lis
 TookEffect-told q h ps op what reply k shown =
     let here : q k.point.op k.point.what ≡ true = ap₂ (λ (o : OpId) (w : Op). q o w) k.op_is k.what_is ∙ shown in
     let parts : filter (at_point q) ps ≡ filter (at_point q) k.before ++ k.point ∷ filter (at_point q) k.later =
-            ap (filter (at_point q)) k.split ∙ filter-append (at_point q) k.before (k.point ∷ k.later)
-            ∙ ap (λ c. filter (at_point q) k.before ++ cond c (k.point ∷ filter (at_point q) k.later) (filter (at_point q) k.later)) here in
+    ap (filter (at_point q)) k.split ∙ filter-append (at_point q) k.before (k.point ∷ k.later)
+    ∙ ap (λ c. filter (at_point q) k.before ++ cond c (k.point ∷ filter (at_point q) k.later) (filter (at_point q) k.later)) here in
     let replies : reply_of (after None (filter (at_point q) k.before)) k.point.what ≡ reply =
-            ap₂ (λ (s : State) (w : Op). reply_of s w) (after-filter q h None k.before) k.what_is ∙ sym k.reply_is in
+    ap₂ (λ (s : State) (w : Op). reply_of s w) (after-filter q h None k.before) k.what_is ∙ sym k.reply_is in
     let told' : told None (filter (at_point q) ps) ≡ told None (filter (at_point q) k.before) ++ told (after None (filter (at_point q) k.before)) (k.point ∷ filter (at_point q) k.later) =
-            ap (told None) parts ∙ told-append None (filter (at_point q) k.before) (k.point ∷ filter (at_point q) k.later) in
+    ap (told None) parts ∙ told-append None (filter (at_point q) k.before) (k.point ∷ filter (at_point q) k.later) in
     subst (λ (l : List Told). IsIn l (record { op = op; what = what; reply = reply })) (sym told')
     (IsIn-right (told None (filter (at_point q) k.before)) (told (after None (filter (at_point q) k.before)) (k.point ∷ filter (at_point q) k.later)) (record { op = op; what = what; reply = reply })
-     (inl (λ i. record { op = k.op_is i; what = k.what_is i; reply = replies i })))
+    (inl (λ i. record { op = k.op_is i; what = k.what_is i; reply = replies i })))

@@ -1,10 +1,9 @@
 -- Answers, stories, and what makes a list a register story of a journal.
-use Rattle.std.specs.Prelude.{◌≡◌, ◌≢◌, ℕ, ◌==◌, ◌+◌, Bool, true, false, not, ◌&&◌, ◌||◌, ◌⊎◌, nat_eq, List, [], ◌∷◌, ◌++◌, map, filter, Option, Some, None, if◌then◌else◌}
+use Rattle.std.specs.Prelude.{◌≡◌, ◌≢◌, ℕ, ◌+◌, Bool, true, false, not, ◌&&◌, ◌||◌, ◌⊎◌, nat_eq, List, [], ◌∷◌, ◌++◌, map, filter, Option, Some, None, if◌then◌else◌}
 use Rattle.std.specs.Cmp.Lexicographic.{pointwise}
 use Rattle.region_map.specs.declared.id.Id.{Id}
 use Rattle.register_laws.specs.declared.operation.OpId.{OpId}
 use Rattle.register_laws.specs.declared.operation.Op.{Op}
-use Rattle.register_laws.specs.declared.operation.Op.TheVariants.{Put, Delete, Cas, Read}
 use Rattle.register_laws.specs.declared.operation.Reply.{Reply}
 use Rattle.register_laws.specs.declared.operation.Told.{Told}
 use Rattle.register_laws.specs.Lists.{IsLegal, told_from, is_read, same_op}
@@ -17,7 +16,7 @@ use Rattle.exec_types.specs.declared.output.Output.{Output}
 use Rattle.exec_types.specs.declared.output.Output.TheVariants.{Message, Dispatched, Answer}
 use Rattle.node_core.specs.declared.journal.Entry.{Entry}
 use Rattle.node_core.specs.Step.{first_id}
-use Rattle.world_core.specs.Run.{requests, is_requested}
+use Rattle.world_core.specs.Run.{requests}
 
 -- ---- answers
 
@@ -167,7 +166,7 @@ pub record IsRegisterStory (past : List Entry) (key : List ℕ) (list : List Tol
   pub legal : IsLegal list
   -- each operation on the key that is done stands in it once, with the reply of its answer
   pub done : (op : OpId) (what : Op) (reply : Reply) (branch : Id) (timestamp : ℕ) → IsRequested past key op what → answer past op ≡ Some (Done reply branch timestamp)
-    → StandsOnce list op × IsIn list (record { op = op; what = what; reply = reply })
+      → StandsOnce list op × IsIn list (record { op = op; what = what; reply = reply })
   -- each member was requested on the key with that operation, stands once, and was not answered that its node did not serve
   pub members : (t : Told) → IsIn list t → IsRequested past key t.op t.what × StandsOnce list t.op × (answer past t.op ≢ Some NotServing)
   -- an operation that was answered before another was requested stands before it

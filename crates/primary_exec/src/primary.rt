@@ -1,0 +1,139 @@
+//! A primary's execution of its contract.
+ghost use Rattle.std.specs.Prelude.{◌≡◌, ◌+◌, ◌^◌, ◌<◌, ◌++◌, ◌∷◌, [], ◌↔◌, OnOk, IsErrOf, IsTrue};
+ghost use Rattle.write_dispatch.specs.Dispatch.{no_acks, with_ack};
+ghost use Rattle.primary_exec.specs.Execution.{Execution, dispatch_row, dispatch_ends_numbers, got_row, decided, decide_outs, give_up_row, give_up_outs, joined};
+
+use crate::answers::{answer_decided, answer_given_up};
+use crate::effect::{apply, effect};
+use crate::session::{Session, acknowledge, ends_numbers, is_live, send};
+use contract_types::Contract;
+use exec_types::{Got, Output, Outputs, SessionName};
+use memory::OutOfMemory;
+use region_map::{Id, Key, NUMBERS_END, NodeId, StepRefused};
+use register_laws::{Op, OpId};
+use std::alloc::Global;
+use std::marker::Model;
+use store_plain::PlainStore;
+use write_dispatch::Pending;
+
+/// A started execution of a contract by its primary.
+#[derive(Drop)]
+pub struct Primary {
+    contract: Contract,
+    me: NodeId,
+    branch: Id,
+    /// The last timestamp that it took.
+    last: u64,
+    pending: Pending,
+    sessions: Vec<Session>,
+}
+
+impl Model for Primary {
+    ghost use Rattle.primary_exec.specs.Execution.{Execution, IsSound};
+
+    ghost Value = { Execution };
+
+    ghost view = { λ a. record { contract = a.contract; me = a.me; branch = a.branch; last = a.last; dispatch = a.pending; sessions = a.sessions.items } };
+
+    ghost invariant = { λ a. IsSound a.last a.pending.waiting a.sessions.items };
+}
+
+impl Primary {
+    /// An execution that has taken no timestamp and has no sessions.
+    pub fn begin(alloc: Global, contract: Contract, me: NodeId, branch: Id) -> Primary
+        ensures { result
+            ≡ record { contract = contract; me = me; branch = branch; last = 0; dispatch = record { waiting = []; acks = no_acks }; sessions = [] } }
+    {
+        Primary {
+            contract,
+            me,
+            branch,
+            last: 0,
+            pending: Pending::new(alloc),
+            sessions: Vec::new(alloc),
+        }
+    }
+
+    /// A secondary that has the start of this session, and stands at timestamp 0.
+    pub fn join(&mut self, server: NodeId, name: SessionName) -> Result<(), OutOfMemory>
+        requires { server.0 < 64 }
+        ensures { OnOk result (self.new ≡ joined self.old server name) }
+    {
+        self.sessions.push(Session {
+            server,
+            name,
+            sent: 1,
+            acked: 1,
+        })?;
+        self.pending.count_ack(server, 0, 0);
+        Ok(())
+    }
+
+    /// Gives the operation the next timestamp.
+    pub fn request(
+        &mut self,
+        alloc: Global,
+        op: OpId,
+        key: &Key,
+        what: &Op,
+        store: &mut PlainStore,
+        out: &mut Outputs,
+    ) -> Result<(), StepRefused>
+        ensures execution { OnOk result
+            (self.new ≡ (dispatch_row self.old store.old op key.now what.now).execution) }
+        ensures store { OnOk result (store.new ≡ (dispatch_row self.old store.old op key.now what.now).rows) }
+        ensures out { OnOk result (out.new ≡ out.old ++ (dispatch_row self.old store.old op key.now what.now).outs) }
+        ensures numbers { IsErrOf result StepRefused.NumbersEnd ↔ IsTrue (dispatch_ends_numbers self.old) }
+    {
+        if self.last >= NUMBERS_END - 1 || ends_numbers(&self.sessions) {
+            return Err(StepRefused::NumbersEnd);
+        }
+        let at = self.last + 1;
+        let (reply, part) = effect(alloc, store, at, key, what)?;
+        let sessions = send(alloc, &self.sessions, &part, out)?;
+        let name = key.copy(alloc)?;
+        out.push(Output::Dispatched {
+            op,
+            key: name,
+            branch: self.branch,
+            timestamp: at,
+        })?;
+        apply(part, store)?;
+        self.pending.dispatch(Some(op), at, reply)?;
+        self.sessions = sessions;
+        self.last = at;
+        Ok(())
+    }
+
+    /// Takes a secondary's word of how far it came.
+    pub fn got(&mut self, from: NodeId, got: &Got)
+        requires { from.0 < 64 }
+        ensures { self.new ≡ got_row self.old from got.now }
+    {
+        if !is_live(&self.sessions, from, &got.session) {
+            return;
+        }
+        acknowledge(&mut self.sessions, from, &got.session, got.upto);
+        if let Some(at) = got.stands {
+            self.pending.count_ack(from, got.view, at);
+        }
+    }
+
+    /// Answers each pending operation that is decided.
+    pub fn decide(&mut self, out: &mut Outputs) -> Result<(), OutOfMemory>
+        ensures execution { OnOk result (self.new ≡ decided self.old) }
+        ensures out { OnOk result (out.new ≡ out.old ++ decide_outs self.old) }
+    {
+        answer_decided(&mut self.pending, &self.contract, self.me, self.branch, out)?;
+        Ok(())
+    }
+
+    /// Answers a pending operation, that its client gave up, with its counts.
+    pub fn give_up(&mut self, op: OpId, out: &mut Outputs) -> Result<(), OutOfMemory>
+        ensures execution { OnOk result (self.new ≡ give_up_row self.old op) }
+        ensures out { OnOk result (out.new ≡ out.old ++ give_up_outs self.old op) }
+    {
+        answer_given_up(&mut self.pending, &self.contract, self.me, op, out)?;
+        Ok(())
+    }
+}
