@@ -1,5 +1,5 @@
 -- The node machine: what a node begins with, and one step of it.
-use Rattle.std.specs.Prelude.{ℕ, zero, suc, ◌==◌, Bool, true, false, ◌||◌, List, [], ◌∷◌, ◌++◌, Option, Some, None, is_some, if◌then◌else◌}
+use Rattle.std.specs.Prelude.{ℕ, zero, suc, ◌==◌, Bool, true, false, ◌&&◌, nat_lt, List, [], ◌∷◌, ◌++◌, Option, Some, None, is_some, if◌then◌else◌}
 use Rattle.region_map.specs.declared.id.NodeId.{NodeId}
 use Rattle.region_map.specs.declared.id.Id.{Id}
 use Rattle.region_map.specs.declared.region.Region.{Region}
@@ -144,9 +144,13 @@ abbrev pub message_row : NodeState → NodeId → Message → Stepped
 message_row s from (message.Stream stream) = take_stream s s.following from stream
 message_row s from (message.Got got) = take_got s s.primary from got
 
+-- the sender of a message is a node of the table; a message that is not well formed, which no run has, does nothing
+abbrev pub is_well_formed : NodeState → Brought → Bool
+is_well_formed s b = nat_lt b.from.0 s.setup.nodes
+
 abbrev pub brought_row : NodeState → Option Brought → Stepped
 brought_row s None = silent s
-brought_row s (Some b) = message_row s b.from b.message
+brought_row s (Some b) = if is_well_formed s b then message_row s b.from b.message else silent s
 
 -- the row of the input
 abbrev pub input_row : NodeState → Input → Option Brought → Stepped
@@ -179,7 +183,7 @@ message_ends_numbers s from (message.Got got) = false
 
 abbrev pub brought_ends_numbers : NodeState → Option Brought → Bool
 brought_ends_numbers s None = false
-brought_ends_numbers s (Some b) = message_ends_numbers s b.from b.message
+brought_ends_numbers s (Some b) = is_well_formed s b && message_ends_numbers s b.from b.message
 
 -- a number that the step makes by adding would be one that none reaches: there is no step
 abbrev pub ends_numbers : NodeState → Input → Option Brought → Bool

@@ -1,5 +1,5 @@
 -- What one step of a node adds to the history, and the invariants of the nodes.
-use Rattle.std.proofs.Common.{◌≡◌, ℕ, ◌+◌, ◌≤◌, ◌==◌, Bool, true, false, cond, ◌&&◌, List, [], ◌∷◌, ◌++◌, map, filter, Option, Some, None, refl, sym, ap, ap₂, ◌∙◌, subst, inl, inr, arith, append-nil}
+use Rattle.std.proofs.Common.{◌≡◌, ℕ, ◌+◌, ◌≤◌, ◌==◌, Bool, true, false, cond, ◌&&◌, List, [], ◌∷◌, ◌++◌, map, filter, Option, Some, None, refl, sym, ap, ap₂, ◌∙◌, subst, inl, inr, arith, append-nil, nat_lt}
 use Rattle.std.proofs.lemmas.Bool.{false≢true, cond_both, or_right, and_from, eq-eqb}
 use Rattle.std.specs.List.{AllByRecursion}
 use Rattle.std.specs.Cmp.Lexicographic.{nat_list_eq_equiv}
@@ -34,7 +34,7 @@ use Rattle.primary_exec.specs.Execution.{Execution, PrimaryStep, has_room, sends
 use Rattle.secondary_exec.specs.declared.following.Following.{Following}
 use Rattle.node_core.specs.declared.node.Brought.{Brought}
 use Rattle.node_core.specs.declared.journal.Entry.{Entry}
-use Rattle.node_core.specs.Step.{NodeState, first_id, node_step}
+use Rattle.node_core.specs.Step.{NodeState, first_id, node_step, Stepped, silent, message_row, end_step}
 use Rattle.world_core.specs.Run.{requests, is_requested, is_fresh}
 use Rattle.world_core.specs.Story.{Point, IsIn, answer_in, or_else, points_in, points_of, same_key, is_on_path, path}
 use Rattle.world_core.proofs.Told.{after, after-append, point_times, TookEffect, TookEffect-last}
@@ -237,6 +237,25 @@ got_row-waiting x from got =
     cond_both (is_live x from got.session) (record x { sessions = map (with_acked from got.session got.upto) x.sessions; dispatch = with_stands x.dispatch from got got.stands }) x
     (λ (y : Execution). y.dispatch.waiting ≡ x.dispatch.waiting) (λ _. with_stands-waiting x.dispatch from got got.stands) (λ _. refl)
 
+-- what is wanted of a step that a message made
+abbrev pub BroughtWell : List Entry → NodeId → ℕ → Stepped → Type 0
+BroughtWell past node number step =
+    Adds past (record { node = node; input = Deliver number; outputs = (end_step step step.node.primary).outs })
+    × PrimaryStays (record { node = node; input = Deliver number; outputs = (end_step step step.node.primary).outs } ∷ past) (end_step step step.node.primary).node
+
+brought_still : (past : List Entry) (node me : NodeId) (setup : SetupState) (rows : Rows) (x y : Execution) (number : ℕ) → PrimaryFacts past x rows → y.branch ≡ x.branch → y.dispatch.waiting ≡ x.dispatch.waiting
+    → BroughtWell past node number (silent (primary_node me setup rows y))
+brought_still past node me setup rows x y number f branch waiting =
+    let e : Entry = record { node = node; input = Deliver number; outputs = decide_outs y } in
+    let r = primary_message past e x y rows refl refl refl f branch waiting in
+    (r.0, record { execution = decided y; primary = refl; following = refl; facts = r.1 })
+
+by_message : (past : List Entry) (node me : NodeId) (setup : SetupState) (rows : Rows) (x : Execution) (number : ℕ) (from : NodeId) (m : Sent) → PrimaryFacts past x rows
+    → BroughtWell past node number (message_row (primary_node me setup rows x) from m)
+by_message past node me setup rows x number from (message.Stream stream) f = brought_still past node me setup rows x x number f refl refl
+by_message past node me setup rows x number from (message.Got got) f =
+    brought_still past node me setup rows x (got_row x from got) number f (got_row-branch x from got) (got_row-waiting x from got)
+
 primary_brought : (past : List Entry) (node me : NodeId) (setup : SetupState) (rows : Rows) (x : Execution) (number : ℕ) (b : Option Brought) → PrimaryFacts past x rows
     → Adds past (step_entry node (primary_node me setup rows x) (Deliver number) b)
     × PrimaryStays (step_entry node (primary_node me setup rows x) (Deliver number) b ∷ past) (node_step (primary_node me setup rows x) (Deliver number) b).node
@@ -244,19 +263,11 @@ primary_brought past node me setup rows x number None f =
     let e : Entry = step_entry node (primary_node me setup rows x) (Deliver number) None in
     let r = primary_message past e x x rows refl refl refl f refl refl in
     (r.0, record { execution = decided x; primary = refl; following = refl; facts = r.1 })
-primary_brought past node me setup rows x number (Some b) f = by b.message refl
-  where
-    by : (m : Sent) → b.message ≡ m
-        → Adds past (step_entry node (primary_node me setup rows x) (Deliver number) (Some (record { from = b.from; message = m })))
-        × PrimaryStays (step_entry node (primary_node me setup rows x) (Deliver number) (Some (record { from = b.from; message = m })) ∷ past) (node_step (primary_node me setup rows x) (Deliver number) (Some (record { from = b.from; message = m }))).node
-    by (message.Stream stream) is =
-        let e : Entry = step_entry node (primary_node me setup rows x) (Deliver number) (Some (record { from = b.from; message = message.Stream stream })) in
-        let r = primary_message past e x x rows refl refl refl f refl refl in
-        (r.0, record { execution = decided x; primary = refl; following = refl; facts = r.1 })
-    by (message.Got got) is =
-        let e : Entry = step_entry node (primary_node me setup rows x) (Deliver number) (Some (record { from = b.from; message = message.Got got })) in
-        let r = primary_message past e x (got_row x b.from got) rows refl refl refl f (got_row-branch x b.from got) (got_row-waiting x b.from got) in
-        (r.0, record { execution = decided (got_row x b.from got); primary = refl; following = refl; facts = r.1 })
+primary_brought past node me setup rows x number (Some b) f =
+    let P : Stepped → Type 0 = λ step. BroughtWell past node number step in
+    cond_both (nat_lt b.from.0 setup.nodes) (message_row (primary_node me setup rows x) b.from b.message) (silent (primary_node me setup rows x)) P
+    (λ _. by_message past node me setup rows x number b.from b.message f)
+    (λ _. brought_still past node me setup rows x x number f refl refl)
 
 pub primary_step : (past : List Entry) (node me : NodeId) (setup : SetupState) (rows : Rows) (x : Execution) (input : Input) (b : Option Brought) → is_fresh past input ≡ true → PrimaryFacts past x rows
     → Adds past (step_entry node (primary_node me setup rows x) input b)
@@ -280,6 +291,23 @@ secondary_silent : (past : List Entry) (e : Entry) (s : NodeState) → is_fresh 
 secondary_silent past e s fresh none quiet' is =
     record { adds = still_adds past e fresh none (λ q. subst (λ (v : Option Outcome). Answered past e q v) (sym (quiet' q)) tt); none = none; primary = is }
 
+-- what is wanted of a step that a message made
+abbrev pub SecondaryWell : List Entry → NodeId → ℕ → Stepped → Type 0
+SecondaryWell past node number step =
+    SecondaryStep past (record { node = node; input = Deliver number; outputs = (end_step step step.node.primary).outs }) (end_step step step.node.primary).node
+
+secondary_quiet : (past : List Entry) (node : NodeId) (number : ℕ) (step : Stepped) → step.node.primary ≡ None → ((q : OpId) → answer_in step.outs q ≡ None) → SecondaryWell past node number step
+secondary_quiet past node number step is quiet' =
+    let same : end_step step step.node.primary ≡ step = ap (end_step step) is in
+    subst (λ (s : Stepped). SecondaryStep past (record { node = node; input = Deliver number; outputs = s.outs }) s.node) (sym same)
+    (secondary_silent past (record { node = node; input = Deliver number; outputs = step.outs }) step.node refl refl quiet' is)
+
+secondary_message : (past : List Entry) (node me : NodeId) (setup : SetupState) (rows : Rows) (f : Option Following) (number : ℕ) (from : NodeId) (m : Sent) → SecondaryWell past node number (message_row (secondary_node me setup rows f) from m)
+secondary_message past node me setup rows None number from (message.Stream stream) = secondary_quiet past node number (silent (secondary_node me setup rows None)) refl (λ q. refl)
+secondary_message past node me setup rows (Some g) number from (message.Stream stream) =
+    secondary_quiet past node number (message_row (secondary_node me setup rows (Some g)) from (message.Stream stream)) refl (λ q. answer_in-stream g rows from stream 0 q)
+secondary_message past node me setup rows f number from (message.Got got) = secondary_quiet past node number (silent (secondary_node me setup rows f)) refl (λ q. refl)
+
 pub secondary_step : (past : List Entry) (node me : NodeId) (setup : SetupState) (rows : Rows) (f : Option Following) (input : Input) (b : Option Brought) → is_fresh past input ≡ true
     → SecondaryStep past (step_entry node (secondary_node me setup rows f) input b) (node_step (secondary_node me setup rows f) input b).node
 secondary_step past node me setup rows f (Request op key what) b fresh =
@@ -293,13 +321,7 @@ secondary_step past node me setup rows f (GiveUp op) b fresh =
     secondary_silent past (step_entry node (secondary_node me setup rows f) (GiveUp op) b) (node_step (secondary_node me setup rows f) (GiveUp op) b).node refl refl (λ q. refl) refl
 secondary_step past node me setup rows f (Deliver number) None fresh =
     secondary_silent past (step_entry node (secondary_node me setup rows f) (Deliver number) None) (node_step (secondary_node me setup rows f) (Deliver number) None).node refl refl (λ q. refl) refl
-secondary_step past node me setup rows f (Deliver number) (Some b) fresh = by f b.message
-  where
-    by : (g : Option Following) (m : Sent)
-        → SecondaryStep past (step_entry node (secondary_node me setup rows g) (Deliver number) (Some (record { from = b.from; message = m }))) (node_step (secondary_node me setup rows g) (Deliver number) (Some (record { from = b.from; message = m }))).node
-    by None (message.Stream stream) =
-        secondary_silent past (step_entry node (secondary_node me setup rows None) (Deliver number) (Some (record { from = b.from; message = message.Stream stream }))) (node_step (secondary_node me setup rows None) (Deliver number) (Some (record { from = b.from; message = message.Stream stream }))).node refl refl (λ q. refl) refl
-    by (Some g) (message.Stream stream) =
-        secondary_silent past (step_entry node (secondary_node me setup rows (Some g)) (Deliver number) (Some (record { from = b.from; message = message.Stream stream }))) (node_step (secondary_node me setup rows (Some g)) (Deliver number) (Some (record { from = b.from; message = message.Stream stream }))).node refl refl (λ q. answer_in-stream g rows b.from stream 0 q) refl
-    by g (message.Got got) =
-        secondary_silent past (step_entry node (secondary_node me setup rows g) (Deliver number) (Some (record { from = b.from; message = message.Got got }))) (node_step (secondary_node me setup rows g) (Deliver number) (Some (record { from = b.from; message = message.Got got }))).node refl refl (λ q. refl) refl
+secondary_step past node me setup rows f (Deliver number) (Some b) fresh =
+    cond_both (nat_lt b.from.0 setup.nodes) (message_row (secondary_node me setup rows f) b.from b.message) (silent (secondary_node me setup rows f)) (SecondaryWell past node number)
+    (λ _. secondary_message past node me setup rows f number b.from b.message)
+    (λ _. secondary_quiet past node number (silent (secondary_node me setup rows f)) refl (λ q. refl))
