@@ -1,5 +1,5 @@
 -- The node machine: what a node begins with, and one step of it.
-use Rattle.std.specs.Prelude.{ℕ, zero, suc, ◌==◌, Bool, true, false, ◌&&◌, nat_lt, List, [], ◌∷◌, ◌++◌, Option, Some, None, is_some, if◌then◌else◌}
+use Rattle.std.specs.Prelude.{ℕ, zero, suc, ◌==◌, Bool, false, ◌&&◌, nat_lt, List, [], ◌∷◌, ◌++◌, Option, Some, None, is_some, if◌then◌else◌}
 use Rattle.region_map.specs.declared.id.NodeId.{NodeId}
 use Rattle.region_map.specs.declared.id.Id.{Id}
 use Rattle.region_map.specs.declared.region.Region.{Region}
@@ -15,16 +15,15 @@ use Rattle.exec_types.specs.declared.message.Got.{Got}
 use Rattle.exec_types.specs.declared.message.Stream.{Stream}
 use Rattle.exec_types.specs.declared.input.Input.{Input}
 use Rattle.exec_types.specs.declared.input.Input.TheVariants.{Request, GiveUp, Deliver}
-use Rattle.exec_types.specs.declared.outcome.Outcome.TheVariants.{NotServing}
 use Rattle.exec_types.specs.declared.output.Output.{Output}
-use Rattle.exec_types.specs.declared.output.Output.TheVariants.{Answer}
 use Rattle.store_plain.specs.Rows.{Rows}
 use Rattle.write_dispatch.specs.Dispatch.{Acks, no_acks, with_ack}
 use Rattle.secondary_exec.specs.declared.following.Following.{Following}
 use Rattle.secondary_exec.specs.Stream.{FollowingStep, stream_row, stream_ends_numbers}
 use Rattle.primary_exec.specs.declared.session.Session.{Session}
-use Rattle.primary_exec.specs.Execution.{Execution, PrimaryStep, dispatch_row, dispatch_ends_numbers, got_row, decided, decide_outs, give_up_row, give_up_outs}
+use Rattle.primary_exec.specs.Execution.{Execution, dispatch_ends_numbers, got_row, decided, decide_outs, give_up_row, give_up_outs}
 use Rattle.node_core.specs.declared.node.Brought.{Brought}
+use Rattle.node_core.specs.Parts.{request_primary, request_rows, request_outs}
 
 -- a node: its rows, and the execution or the following that its contract gives it
 pub record NodeState : Type 0 where
@@ -118,15 +117,16 @@ silent s = record { node = s; outs = [] }
 abbrev pub serves : NodeState → List ℕ → Bool
 serves s key = is_some s.primary
 
-abbrev pub with_primary : NodeState → PrimaryStep → Stepped
-with_primary s step = record { node = record s { primary = Some step.execution; rows = step.rows }; outs = step.outs }
-
 abbrev pub with_following : NodeState → FollowingStep → Stepped
 with_following s step = record { node = record s { following = Some step.following; rows = step.rows }; outs = step.outs }
 
-abbrev pub request_row : NodeState → Option Execution → OpId → List ℕ → Op → Stepped
-request_row s None op key what = record { node = s; outs = Answer op NotServing ∷ [] }
-request_row s (Some x) op key what = with_primary s (dispatch_row x s.rows op key what)
+-- a primary dispatches the operation; any other node does not serve the key
+abbrev pub request_row : NodeState → OpId → List ℕ → Op → Stepped
+request_row s op key what =
+    record {
+      node = record s { primary = request_primary s.primary s.rows op key what; rows = request_rows s.primary s.rows op key what };
+      outs = request_outs s.primary s.rows op key what;
+    }
 
 abbrev pub give_up : NodeState → Option Execution → OpId → Stepped
 give_up s None op = silent s
@@ -154,7 +154,7 @@ brought_row s (Some b) = if is_well_formed s b then message_row s b.from b.messa
 
 -- the row of the input
 abbrev pub input_row : NodeState → Input → Option Brought → Stepped
-input_row s (Request op key what) brought = request_row s s.primary op key what
+input_row s (Request op key what) brought = request_row s op key what
 input_row s (GiveUp op) brought = give_up s s.primary op
 input_row s (Deliver number) brought = brought_row s brought
 

@@ -5,7 +5,9 @@
 #![tactic(auto)]
 
 pub use journal::{Entry, Journal};
-pub use node::Brought;
+pub use node::{Brought, Node};
 
 pub mod journal;
 pub mod node;
+pub mod rows;
+pub mod setup_state;
