@@ -1,22 +1,16 @@
 -- Runs: journals in which each entry is a step of its node.
-use Rattle.std.specs.Prelude.{◌≡◌, ℕ, zero, suc, ◌==◌, Bool, true, false, not, ◌&&◌, ◌||◌, nat_lt, List, [], ◌∷◌, ◌++◌, Option, Some, None, slice_get, if◌then◌else◌}
+use Rattle.std.specs.Prelude.{◌≡◌, ℕ, ◌==◌, ◌-◌, Bool, true, false, not, ◌&&◌, ◌||◌, nat_lt, List, [], ◌∷◌, ◌++◌, Option, Some, None, slice_get, if◌then◌else◌}
 use Rattle.region_map.specs.declared.id.NodeId.{NodeId}
 use Rattle.register_laws.specs.declared.operation.OpId.{OpId}
 use Rattle.contract_types.specs.Setup.{SetupState}
-use Rattle.exec_types.specs.declared.message.Message.{Message as Sent}
 use Rattle.exec_types.specs.declared.input.Input.{Input}
 use Rattle.exec_types.specs.declared.input.Input.TheVariants.{Request, GiveUp, Deliver}
 use Rattle.exec_types.specs.declared.output.Output.{Output}
 use Rattle.exec_types.specs.declared.output.Output.TheVariants.{Message, Dispatched, Answer}
 use Rattle.node_core.specs.declared.node.Brought.{Brought}
 use Rattle.node_core.specs.declared.journal.Entry.{Entry}
+use Rattle.world_core.specs.declared.envelope.Envelope.{Envelope}
 use Rattle.node_core.specs.Step.{NodeState, begin_node, node_step, ends_numbers}
-
--- a message on its way
-pub record Envelope : Type 0 where
-  pub from : NodeId
-  pub to : NodeId
-  pub message : Sent
 
 -- ---- messages, numbered from 1 over the whole journal
 
@@ -31,9 +25,12 @@ abbrev pub sent : List Entry → List Envelope
 sent [] = []
 sent (e ∷ past) = sent past ++ sent_by e.node e.outputs
 
+-- the message of a number among some
+abbrev pub numbered : List Envelope → ℕ → Option Envelope
+numbered messages number = if number == 0 then None else slice_get messages (number - 1)
+
 abbrev pub message_at : List Entry → ℕ → Option Envelope
-message_at past zero = None
-message_at past (suc place) = slice_get (sent past) place
+message_at past number = numbered (sent past) number
 
 abbrev pub opened : Option Envelope → Option Brought
 opened None = None

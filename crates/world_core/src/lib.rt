@@ -1,7 +1,13 @@
 //! The world of all nodes: its runs, its stories, and what holds of every run.
 //!
 //! Above: the programs. Below: `node_core`, `register_laws`.
-//! Promise: each journal of a world is a run, and each key's story is a register story of it.
+//! Promise: the journal of a world is a run, and each key's story is a register story of it.
 #![tactic(auto)]
 
-pub fn nothing() {}
+pub use envelope::Envelope;
+pub use laws::{answers_of_runs, stories_of_runs};
+pub use push_refused::PushRefused;
+
+pub mod envelope;
+pub mod laws;
+pub mod push_refused;

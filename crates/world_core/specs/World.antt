@@ -1,0 +1,70 @@
+-- What clients see of a world, and which events it takes.
+use Rattle.std.specs.Prelude.{◌≡◌, ℕ, ◌==◌, Bool, true, false, not, nat_lt, List, map, Option, Some, None, if◌then◌else◌}
+use Rattle.region_map.specs.declared.id.NodeId.{NodeId}
+use Rattle.region_map.specs.declared.step_refused.StepRefused.{StepRefused}
+use Rattle.region_map.specs.declared.step_refused.StepRefused.TheVariants as step
+use Rattle.contract_types.specs.Setup.{SetupState}
+use Rattle.contract_types.specs.declared.limits.Which.TheVariants.{Numbers}
+use Rattle.exec_types.specs.declared.input.Input.{Input}
+use Rattle.exec_types.specs.declared.input.Input.TheVariants.{Request, GiveUp, Deliver}
+use Rattle.node_core.specs.declared.journal.Entry.{Entry}
+use Rattle.node_core.specs.Step.{NodeState, nodes_below, ends_numbers}
+use Rattle.world_core.specs.declared.envelope.Envelope.{Envelope}
+use Rattle.world_core.specs.declared.push_refused.PushRefused.{PushRefused}
+use Rattle.world_core.specs.declared.push_refused.PushRefused.TheVariants.{NoSuchNode, NoSuchMessage, NotYours, OpKnown, JournalFull, OutOfMemory}
+use Rattle.world_core.specs.Run.{is_requested, message_at, brought, state}
+
+-- what the table began with, the entries since, the newest first, and what the world answers once it ended
+pub record WorldState : Type 0 where
+  pub setup : SetupState
+  pub past : List Entry
+  pub ended : Option PushRefused
+
+abbrev pub step_refusal : StepRefused → PushRefused
+step_refusal step.NumbersEnd = JournalFull Numbers
+step_refusal step.OutOfMemory = OutOfMemory
+
+-- the states of all nodes
+abbrev pub states : SetupState → List Entry → List (Option NodeState)
+states setup past = map (λ n. Some (state setup n past)) (nodes_below setup.nodes)
+
+-- the node's step would pass the limit of the numbers
+abbrev pub numbers_refusal : SetupState → List Entry → NodeId → Input → Option PushRefused
+numbers_refusal setup past node input =
+    if ends_numbers (state setup node.0 past) input (brought past input) then Some (JournalFull Numbers) else None
+
+-- a message that is there is for this node
+abbrev pub owner_refusal : Option Envelope → NodeId → Option PushRefused → Option PushRefused
+owner_refusal None node later = Some NoSuchMessage
+owner_refusal (Some e) node later = if e.to.0 == node.0 then later else Some NotYours
+
+abbrev pub input_refusal : List Entry → NodeId → Input → Option PushRefused → Option PushRefused
+input_refusal past node (Request op key what) later = if is_requested past op then Some OpKnown else later
+input_refusal past node (GiveUp op) later = later
+input_refusal past node (Deliver number) later = owner_refusal (message_at past number) node later
+
+-- the first refusal of an event that holds
+abbrev pub event_refusal : SetupState → List Entry → NodeId → Input → Option PushRefused
+event_refusal setup past node input =
+    if nat_lt node.0 setup.nodes then input_refusal past node input (numbers_refusal setup past node input) else Some NoSuchNode
+
+abbrev pub unless_ended : Option PushRefused → Option PushRefused → Option PushRefused
+unless_ended None later = later
+unless_ended (Some why) later = Some why
+
+-- a world that ended gives the answer with which it ended
+abbrev pub push_refusal : WorldState → NodeId → Input → Option PushRefused
+push_refusal w node input = unless_ended w.ended (event_refusal w.setup w.past node input)
+
+-- a refusal after which the world answers nothing else
+abbrev pub is_final : PushRefused → Bool
+is_final NoSuchNode = false
+is_final NoSuchMessage = false
+is_final NotYours = false
+is_final OpKnown = false
+is_final (JournalFull which) = true
+is_final OutOfMemory = true
+
+-- the world after a refusal: nothing changed, but that it may have ended
+abbrev pub after_refusal : WorldState → PushRefused → WorldState
+after_refusal w why = if is_final why then record w { ended = Some why } else w
