@@ -1,4 +1,5 @@
 pub mod Grammar
+pub mod LineReads
 pub mod Lines
 pub mod Script
 pub mod Statuses
