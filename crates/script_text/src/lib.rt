@@ -9,6 +9,7 @@
 
 pub use contract_types::{Setup, Which};
 pub use memory::OutOfMemory;
+pub use reading::read_script;
 pub use script::{Script, ScriptItem, ScriptWord};
 pub use script_refused::ScriptRefused;
 pub use status::{Reason, Status};

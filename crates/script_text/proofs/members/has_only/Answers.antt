@@ -1,4 +1,4 @@
-use Rattle.std.proofs.Common.{map, ◌∙◌}
+use Rattle.std.proofs.Common.{◌∙◌}
 use Rattle.script_text.proofs.LineLaws.{are_named-keys}
 use Rattle.serde_json.proofs.Views.{view-Object}
 use Rattle.script_text.proofs.members.has_only.Goals as goal
