@@ -21,4 +21,6 @@ pub mod reading;
 pub mod script;
 pub mod script_refused;
 pub mod status;
+#[cfg(test)]
+mod tests;
 mod words;

@@ -2,6 +2,7 @@
 ghost use Rattle.std.specs.Prelude.{◌≡◌, OnErr, IfOk, IfErr};
 ghost use Rattle.script_text.specs.Lines.{Accepted, read_lines, said, take_line, take_data, take_named, take_setup, take_word, at_first};
 ghost use Rattle.script_text.specs.LineReads.{IsTaken, IsScriptRefusedAs};
+ghost use Rattle.script_text.specs.Sound.{IsSound};
 ghost use Rattle.serde_json.specs.View.{view};
 
 use crate::line_refused::LineRefused;
@@ -120,6 +121,7 @@ impl Reader {
 /// Its first line may set up the table; without one the table has one node and eight hashes.
 pub fn read_script(alloc: Global, text: &[u8]) -> Result<Script, ScriptRefused>
     ensures ok { IfOk result (λ script. read_lines text.now ≡ Accepted script) }
+    ensures sound { IfOk result IsSound }
     ensures refused { IfErr result (λ why. IsScriptRefusedAs why (read_lines text.now)) }
 {
     let mut reader = Reader::new(alloc);
