@@ -15,10 +15,14 @@ abbrev pub begin_line : ℕ → List (List ℕ) → List (List ℕ)
 begin_line c [] = (c ∷ []) ∷ []
 begin_line c (first ∷ others) = (c ∷ first) ∷ others
 
+-- LF
+abbrev pub is_line_end : ℕ → Bool
+is_line_end c = c == 10
+
 -- the lines of a text: LF ends each, and may be missing at the last
 abbrev pub lines : List ℕ → List (List ℕ)
 lines [] = []
-lines (c ∷ rest) = if c == 10 then [] ∷ lines rest else begin_line c (lines rest)
+lines (c ∷ rest) = if is_line_end c then [] ∷ lines rest else begin_line c (lines rest)
 
 -- a space, a tab or CR
 abbrev pub is_space : ℕ → Bool

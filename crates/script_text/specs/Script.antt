@@ -1,7 +1,6 @@
 -- What a script asks.
 use Rattle.std.specs.Prelude.{ℕ, Bool, true, false, ◌==◌, List}
 use Rattle.std.specs.List.{list_any}
-use Rattle.register_laws.specs.declared.operation.OpId.{OpId}
 use Rattle.register_laws.specs.declared.operation.Op.{Op}
 use Rattle.register_laws.specs.declared.operation.Op.TheVariants.{Put, Delete, Cas, Read}
 use Rattle.contract_types.specs.Setup.{SetupState}

@@ -9,6 +9,7 @@
 
 pub use contract_types::{Setup, Which};
 pub use memory::OutOfMemory;
+pub use reading::read_script;
 pub use script::{Script, ScriptItem, ScriptWord};
 pub use script_refused::ScriptRefused;
 pub use status::{Reason, Status};
@@ -20,4 +21,6 @@ pub mod reading;
 pub mod script;
 pub mod script_refused;
 pub mod status;
+#[cfg(test)]
+mod tests;
 mod words;

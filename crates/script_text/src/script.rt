@@ -18,11 +18,18 @@ pub enum ScriptWord {
         what: Op,
     },
     /// The client at a node no longer waits for its operation.
-    GiveUp { node: NodeId, op: OpId },
+    GiveUp {
+        node: NodeId,
+        op: OpId,
+    },
     /// The network brings the message of this number to the node that it is for.
-    Deliver { message: u64 },
+    Deliver {
+        message: u64,
+    },
     /// The network loses the message of this number.
-    Lose { message: u64 },
+    Lose {
+        message: u64,
+    },
     /// The network brings every waiting message.
     Flush,
 }

@@ -18,19 +18,13 @@ pub enum Status {
     /// The words of the command are not known.
     Usage,
     /// This line of the script, counted from 1, is the first that is refused.
-    Script {
-        line: u64,
-        reason: Reason,
-    },
+    Script { line: u64, reason: Reason },
     /// A read of the source failed.
     ReadFault,
     /// A write of the sink failed.
     WriteFault,
     /// This quantity would have passed its number.
-    Limit {
-        which: Which,
-        number: u64,
-    },
+    Limit { which: Which, number: u64 },
     OutOfMemory,
 }
 

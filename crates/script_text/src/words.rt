@@ -1,1 +1,189 @@
-//! words
+//! The words of a script, each with its members.
+ghost use Rattle.std.specs.Prelude.{◌≡◌, IfOk};
+ghost use Rattle.script_text.specs.Grammar.{setup_of, put_of, delete_of, read_of, giveup_of, deliver_of, lose_of, flush_of, word_named, key_in, value_in};
+ghost use Rattle.script_text.specs.LineReads.{IsReadAs};
+ghost use Rattle.serde_json.specs.View.{view};
+
+use crate::line_refused::LineRefused;
+use crate::members::{has_only, node_in, number_in, number_or, op_in, text_in};
+use crate::{Reason, ScriptWord};
+use contract_types::Setup;
+use region_map::Key;
+use register_laws::{Op, Value as RegisterValue};
+use serde_json::Value;
+use std::alloc::Global;
+
+/// `setup`: what the table begins with.
+pub(crate) fn setup_of(line: &Value) -> Option<Setup>
+    ensures { result ≡ setup_of (view line.now) }
+{
+    let nodes = number_in("nodes", line)?;
+    let hashes = number_or(8, "hash", line)?;
+    if has_only(&["do", "nodes", "hash"], line)
+        && 1 <= nodes
+        && nodes <= 7
+        && matches!(hashes, 1 | 2 | 4 | 8)
+    {
+        return Some(Setup::new(nodes as u8, hashes as u8));
+    }
+    None
+}
+
+/// The key of a line.
+fn key_in(alloc: Global, line: &Value) -> Result<Key, LineRefused>
+    ensures { IsReadAs result (key_in (view line.now)) }
+{
+    let text = text_in("key", line).ok_or(Reason::NotBuilt)?;
+    let bytes = Vec::from_slice(alloc, text.as_bytes())?;
+    match Key::new(bytes) {
+        Ok(key) => Ok(key),
+        Err(_length) => Err(LineRefused::Reason(Reason::NotBuilt)),
+    }
+}
+
+/// The value of a line.
+fn value_in(alloc: Global, line: &Value) -> Result<RegisterValue, LineRefused>
+    ensures { IsReadAs result (value_in (view line.now)) }
+{
+    let text = text_in("value", line).ok_or(Reason::NotBuilt)?;
+    let bytes = Vec::from_slice(alloc, text.as_bytes())?;
+    match RegisterValue::new(bytes) {
+        Ok(value) => Ok(value),
+        Err(_length) => Err(LineRefused::Reason(Reason::NotBuilt)),
+    }
+}
+
+/// `put`: a request that sets a key.
+fn put_of(alloc: Global, setup: Setup, line: &Value) -> Result<ScriptWord, LineRefused>
+    ensures { IsReadAs result (put_of setup (view line.now)) }
+{
+    let op = op_in("op", line).ok_or(Reason::NotBuilt)?;
+    let node = node_in(setup, line).ok_or(Reason::NotBuilt)?;
+    let key = key_in(alloc, line)?;
+    let value = value_in(alloc, line)?;
+    if !has_only(&["do", "op", "node", "key", "value"], line) {
+        return Err(LineRefused::Reason(Reason::NotBuilt));
+    }
+    let what = Op::Put(value);
+    Ok(ScriptWord::Request {
+        op,
+        node,
+        key,
+        what,
+    })
+}
+
+/// `delete`: a request that removes a key.
+fn delete_of(alloc: Global, setup: Setup, line: &Value) -> Result<ScriptWord, LineRefused>
+    ensures { IsReadAs result (delete_of setup (view line.now)) }
+{
+    let op = op_in("op", line).ok_or(Reason::NotBuilt)?;
+    let node = node_in(setup, line).ok_or(Reason::NotBuilt)?;
+    let key = key_in(alloc, line)?;
+    if !has_only(&["do", "op", "node", "key"], line) {
+        return Err(LineRefused::Reason(Reason::NotBuilt));
+    }
+    let what = Op::Delete;
+    Ok(ScriptWord::Request {
+        op,
+        node,
+        key,
+        what,
+    })
+}
+
+/// `read`: a request that reads a key.
+fn read_of(alloc: Global, setup: Setup, line: &Value) -> Result<ScriptWord, LineRefused>
+    ensures { IsReadAs result (read_of setup (view line.now)) }
+{
+    let op = op_in("op", line).ok_or(Reason::NotBuilt)?;
+    let node = node_in(setup, line).ok_or(Reason::NotBuilt)?;
+    let key = key_in(alloc, line)?;
+    if !has_only(&["do", "op", "node", "key"], line) {
+        return Err(LineRefused::Reason(Reason::NotBuilt));
+    }
+    let what = Op::Read;
+    Ok(ScriptWord::Request {
+        op,
+        node,
+        key,
+        what,
+    })
+}
+
+/// `giveup`: a client no longer waits.
+fn giveup_of(setup: Setup, line: &Value) -> Option<ScriptWord>
+    ensures { result ≡ giveup_of setup (view line.now) }
+{
+    let node = node_in(setup, line)?;
+    let op = op_in("for", line)?;
+    if !has_only(&["do", "node", "for"], line) {
+        return None;
+    }
+    Some(ScriptWord::GiveUp { node, op })
+}
+
+/// `deliver`: a message arrives.
+fn deliver_of(line: &Value) -> Option<ScriptWord>
+    ensures { result ≡ deliver_of (view line.now) }
+{
+    let message = number_in("message", line)?;
+    if !has_only(&["do", "message"], line) {
+        return None;
+    }
+    Some(ScriptWord::Deliver { message })
+}
+
+/// `lose`: a message is lost.
+fn lose_of(line: &Value) -> Option<ScriptWord>
+    ensures { result ≡ lose_of (view line.now) }
+{
+    let message = number_in("message", line)?;
+    if !has_only(&["do", "message"], line) {
+        return None;
+    }
+    Some(ScriptWord::Lose { message })
+}
+
+/// `flush`: every waiting message arrives.
+fn flush_of(line: &Value) -> Option<ScriptWord>
+    ensures { result ≡ flush_of (view line.now) }
+{
+    if !has_only(&["do"], line) {
+        return None;
+    }
+    Some(ScriptWord::Flush)
+}
+
+/// The word of a line whose `do` is this name.
+pub(crate) fn word_named(
+    alloc: Global,
+    setup: Setup,
+    name: &str,
+    line: &Value,
+) -> Result<ScriptWord, LineRefused>
+    ensures { IsReadAs result (word_named setup name.now (view line.now)) }
+{
+    if name == "put" {
+        return put_of(alloc, setup, line);
+    }
+    if name == "delete" {
+        return delete_of(alloc, setup, line);
+    }
+    if name == "read" {
+        return read_of(alloc, setup, line);
+    }
+    if name == "giveup" {
+        return Ok(giveup_of(setup, line).ok_or(Reason::NotBuilt)?);
+    }
+    if name == "deliver" {
+        return Ok(deliver_of(line).ok_or(Reason::NotBuilt)?);
+    }
+    if name == "lose" {
+        return Ok(lose_of(line).ok_or(Reason::NotBuilt)?);
+    }
+    if name == "flush" {
+        return Ok(flush_of(line).ok_or(Reason::NotBuilt)?);
+    }
+    Err(LineRefused::Reason(Reason::NotBuilt))
+}

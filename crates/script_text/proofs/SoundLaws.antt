@@ -1,0 +1,208 @@
+-- Every accepted script is sound.
+use Rattle.std.proofs.Common.{⊎_elim, ◌≡◌, ◌⊎◌, inl, inr, append-nil, append_assoc, ℕ, ◌+◌, Bool, true, false, not, ◌&&◌, List, [], ◌∷◌, ◌++◌, Some, None, refl, sym, subst}
+use Rattle.std.specs.Prelude.{Option, option_and_then, option_map, if◌then◌else◌, bytes_eq, codes, nat_lt}
+use Rattle.std.specs.List.{list_all}
+use Rattle.serde_json.specs.Data.{Data}
+use Rattle.contract_types.specs.Setup.{SetupState}
+use Rattle.script_text.specs.declared.script.ScriptWord.{ScriptWord}
+use Rattle.script_text.specs.declared.script.ScriptItem.{ScriptItem}
+use Rattle.script_text.specs.Script.{ScriptState, is_built, is_again}
+use Rattle.script_text.specs.declared.script.ScriptWord.TheVariants.{Request, GiveUp, Deliver, Lose, Flush}
+use Rattle.register_laws.specs.declared.operation.OpId.{OpId}
+use Rattle.register_laws.specs.declared.operation.Op.{Op}
+use Rattle.register_laws.specs.declared.operation.Op.TheVariants.{Put, Delete, Read}
+use Rattle.region_map.specs.declared.id.NodeId.{NodeId}
+use Rattle.region_map.specs.Nodes.{node_id}
+use Rattle.script_text.specs.Grammar.{◌>>=◌, kept_if, number_in, op_in, node_in, key_in, value_in, setup_of, put_of, delete_of, read_of, giveup_of, deliver_of, lose_of, flush_of, word_named, text_in}
+use Rattle.script_text.specs.Lines.{Reading, ScriptRead, Accepted, at_first, said, is_blank, line_data, lines, take_line, take_data, take_named, take_setup, take_word, unless_refused, read_from, read_lines}
+use Rattle.script_text.specs.Sound.{fits_table, are_new, IsSound}
+
+-- ---- words name nodes of the table
+
+kept_is : {A : Type 0} (test : Bool) (a b : A) → kept_if test a ≡ Some b → (test ≡ true) × (a ≡ b)
+kept_is true a b is = (refl, cc)
+kept_is false a b is = cc
+
+node_below : (nodes : ℕ) (number : Option ℕ) (node : NodeId) → (number >>= λ n. kept_if (nat_lt n nodes) (node_id n)) ≡ Some node → nat_lt node.0 nodes ≡ true
+node_below nodes None node is = cc
+node_below nodes (Some n) node is =
+    let h = kept_is (nat_lt n nodes) (node_id n) node is in
+    subst (λ (k : NodeId). nat_lt k.0 nodes ≡ true) h.1 h.0
+
+node_in-fits : (setup : SetupState) (line : Data) (node : NodeId) → node_in setup line ≡ Some node → nat_lt node.0 setup.nodes ≡ true
+node_in-fits setup line node is = node_below setup.nodes (number_in (codes "node") line) node is
+
+module _ (setup : SetupState) where
+  request_with : (what : List ℕ → Op) (op : Option OpId) (node : Option NodeId) (key value : Option (List ℕ)) (test : Bool) (word : ScriptWord)
+      → ((n : NodeId) → node ≡ Some n → nat_lt n.0 setup.nodes ≡ true)
+      → (op >>= λ o. node >>= λ n. key >>= λ k. value >>= λ v. kept_if test (Request o n k (what v))) ≡ Some word
+      → fits_table setup word ≡ true
+  request_with what None at key value test word fits is = cc
+  request_with what (Some o) None key value test word fits is = cc
+  request_with what (Some o) (Some n) None value test word fits is = cc
+  request_with what (Some o) (Some n) (Some k) None test word fits is = cc
+  request_with what (Some o) (Some n) (Some k) (Some v) test word fits is =
+      let h = kept_is test (Request o n k (what v)) word is in
+      subst (λ w. fits_table setup w ≡ true) h.1 (fits n refl)
+
+  request_of : (what : Op) (op : Option OpId) (node : Option NodeId) (key : Option (List ℕ)) (test : Bool) (word : ScriptWord)
+      → ((n : NodeId) → node ≡ Some n → nat_lt n.0 setup.nodes ≡ true)
+      → (op >>= λ o. node >>= λ n. key >>= λ k. kept_if test (Request o n k what)) ≡ Some word
+      → fits_table setup word ≡ true
+  request_of what None at key test word fits is = cc
+  request_of what (Some o) None key test word fits is = cc
+  request_of what (Some o) (Some n) None test word fits is = cc
+  request_of what (Some o) (Some n) (Some k) test word fits is =
+      let h = kept_is test (Request o n k what) word is in
+      subst (λ w. fits_table setup w ≡ true) h.1 (fits n refl)
+
+  giveup_with : (node : Option NodeId) (op : Option OpId) (test : Bool) (word : ScriptWord)
+      → ((n : NodeId) → node ≡ Some n → nat_lt n.0 setup.nodes ≡ true)
+      → (node >>= λ n. op >>= λ o. kept_if test (GiveUp n o)) ≡ Some word
+      → fits_table setup word ≡ true
+  giveup_with None op test word fits is = cc
+  giveup_with (Some n) None test word fits is = cc
+  giveup_with (Some n) (Some o) test word fits is =
+      let h = kept_is test (GiveUp n o) word is in
+      subst (λ w. fits_table setup w ≡ true) h.1 (fits n refl)
+
+  message_of : (what : ℕ → ScriptWord) (message : Option ℕ) (test : Bool) (word : ScriptWord)
+      → ((n : ℕ) → fits_table setup (what n) ≡ true)
+      → (message >>= λ m. kept_if test (what m)) ≡ Some word
+      → fits_table setup word ≡ true
+  message_of what None test word fits is = cc
+  message_of what (Some m) test word fits is =
+      let h = kept_is test (what m) word is in
+      subst (λ w. fits_table setup w ≡ true) h.1 (fits m)
+
+  put-fits : (line : Data) (word : ScriptWord) → put_of setup line ≡ Some word → fits_table setup word ≡ true
+  put-fits line word is = request_with Put (op_in (codes "op") line) (node_in setup line) (key_in line) (value_in line) _ word (node_in-fits setup line) is
+
+  delete-fits : (line : Data) (word : ScriptWord) → delete_of setup line ≡ Some word → fits_table setup word ≡ true
+  delete-fits line word is = request_of Delete (op_in (codes "op") line) (node_in setup line) (key_in line) _ word (node_in-fits setup line) is
+
+  read-fits : (line : Data) (word : ScriptWord) → read_of setup line ≡ Some word → fits_table setup word ≡ true
+  read-fits line word is = request_of Read (op_in (codes "op") line) (node_in setup line) (key_in line) _ word (node_in-fits setup line) is
+
+  giveup-fits : (line : Data) (word : ScriptWord) → giveup_of setup line ≡ Some word → fits_table setup word ≡ true
+  giveup-fits line word is = giveup_with (node_in setup line) (op_in (codes "for") line) _ word (node_in-fits setup line) is
+
+  flush_with : (test : Bool) (word : ScriptWord) → kept_if test Flush ≡ Some word → fits_table setup word ≡ true
+  flush_with test word is = subst (λ w. fits_table setup w ≡ true) (kept_is test Flush word is).1 refl
+
+  choose : {A : Type 0} (b : Bool) (x y : Option A) (a : A) (P : A → Type 0) → (x ≡ Some a → P a) → (y ≡ Some a → P a) → (if b then x else y) ≡ Some a → P a
+  choose true x y a P left right is = left is
+  choose false x y a P left right is = right is
+
+  -- each word of the grammar
+  word-fits : (name : List ℕ) (line : Data) (word : ScriptWord) → word_named setup name line ≡ Some word → fits_table setup word ≡ true
+  word-fits name line word =
+      let P : ScriptWord → Type 0 = λ w. fits_table setup w ≡ true in
+      choose (bytes_eq name (codes "put")) (put_of setup line) _ word P (put-fits line word) (
+      choose (bytes_eq name (codes "delete")) (delete_of setup line) _ word P (delete-fits line word) (
+      choose (bytes_eq name (codes "read")) (read_of setup line) _ word P (read-fits line word) (
+      choose (bytes_eq name (codes "giveup")) (giveup_of setup line) _ word P (giveup-fits line word) (
+      choose (bytes_eq name (codes "deliver")) (deliver_of line) _ word P (message_of Deliver (number_in (codes "message") line) _ word (λ n. refl)) (
+      choose (bytes_eq name (codes "lose")) (lose_of line) _ word P (message_of Lose (number_in (codes "message") line) _ word (λ n. refl)) (
+      choose (bytes_eq name (codes "flush")) (flush_of line) None word P (flush_with _ word) (λ is. cc)))))))
+
+-- ---- what the lines so far said is sound
+
+record IsSoundSoFar (r : Reading) : Type 0 where
+  sound : IsSound (said r)
+  empty : r.begun ≡ false → r.items ≡ []
+
+both : (a b : Bool) → (a && b) ≡ true → (a ≡ true) × (b ≡ true)
+both true b is = (refl, is)
+both false b is = cc
+
+and_then_is : {A B : Type 0} (f : A → Option B) (o : Option A) (b : B) → option_and_then f o ≡ Some b → (a : A) × (o ≡ Some a) × (f a ≡ Some b)
+and_then_is f None b is = cc
+and_then_is f (Some a) b is = (a, refl, is)
+
+map_is : {A B : Type 0} (f : A → B) (o : Option A) (b : B) → option_map f o ≡ Some b → (a : A) × (f a ≡ b)
+map_is f None b is = cc
+map_is f (Some a) b is = (a, cc)
+
+if_is : {A : Type 0} (test : Bool) (x y : Option A) (a : A) → (if test then x else y) ≡ Some a → ((test ≡ true) × (x ≡ Some a)) ⊎ ((test ≡ false) × (y ≡ Some a))
+if_is true x y a is = inl (refl, is)
+if_is false x y a is = inr (refl, is)
+
+are_new-push : (before items : List ScriptItem) (item : ScriptItem) → are_new before items ≡ true → not (is_again item.word (before ++ items)) ≡ true → are_new before (items ++ item ∷ []) ≡ true
+are_new-push before [] item new fresh =
+    let h = rw append-nil at fresh in
+    rw h refl
+are_new-push before (x ∷ xs) item new fresh =
+    let h = both (not (is_again x.word before)) (are_new (before ++ x ∷ []) xs) new in
+    let later : not (is_again item.word ((before ++ x ∷ []) ++ xs)) ≡ true = rw append_assoc fresh in
+    rw h.0 (are_new-push (before ++ x ∷ []) xs item h.1 later)
+
+all-push : (p : ScriptItem → Bool) (items : List ScriptItem) (item : ScriptItem) → list_all p items ≡ true → p item ≡ true → list_all p (items ++ item ∷ []) ≡ true
+all-push p [] item all one = rw one refl
+all-push p (x ∷ xs) item all one =
+    let h = both (p x) (list_all p xs) all in
+    rw h.0 (all-push p xs item h.1 one)
+
+all-none : (p : ScriptItem → Bool) (items : List ScriptItem) → items ≡ [] → list_all p items ≡ true
+all-none p items none = subst (λ xs. list_all p xs ≡ true) (sym none) refl
+
+setup-sound : (r s : Reading) (line : Data) → IsSoundSoFar r → take_setup r line ≡ Some s → IsSoundSoFar s
+setup-sound r s line h is =
+    ⊎_elim (λ (c : (r.begun ≡ true) × (None ≡ Some s)). cc)
+    (λ (c : (r.begun ≡ false) × (option_map (λ setup. record r { begun = true; setup = setup }) (setup_of line) ≡ Some s)).
+    let m = map_is (λ (setup : SetupState). record r { begun = true; setup = setup }) (setup_of line) s c.1 in
+    let none = h.empty c.0 in
+    subst IsSoundSoFar m.1 (record { sound = record { built = all-none (λ i. is_built i.word) r.items none; fits = all-none (λ i. fits_table m.0 i.word) r.items none; new = subst (λ items. are_new [] items ≡ true) (sym none) refl }; empty = λ e. cc }))
+    (if_is r.begun None (option_map (λ (setup : SetupState). record r { begun = true; setup = setup }) (setup_of line)) s is)
+
+word-sound : (r s : Reading) (number : ℕ) (word : ScriptWord) → IsSoundSoFar r → fits_table r.setup word ≡ true → take_word r number word ≡ Some s → IsSoundSoFar s
+word-sound r s number word h fits is =
+    let item : ScriptItem = record { line = number; word = word } in
+    let k = kept_is (is_built word && not (is_again word r.items)) (record r { begun = true; items = r.items ++ item ∷ [] }) s is in
+    let tests = both (is_built word) (not (is_again word r.items)) k.0 in
+    subst IsSoundSoFar k.1 (record {
+      sound = record {
+        built = all-push (λ i. is_built i.word) r.items item h.sound.built tests.0;
+        fits = all-push (λ i. fits_table r.setup i.word) r.items item h.sound.fits fits;
+        new = are_new-push [] r.items item h.sound.new tests.1;
+      };
+      empty = λ e. cc;
+    })
+
+named-sound : (r s : Reading) (number : ℕ) (name : List ℕ) (line : Data) → IsSoundSoFar r → take_named r number name line ≡ Some s → IsSoundSoFar s
+named-sound r s number name line h is =
+    ⊎_elim (λ (c : (bytes_eq name (codes "setup") ≡ true) × (take_setup r line ≡ Some s)). setup-sound r s line h c.1)
+    (λ (c : (bytes_eq name (codes "setup") ≡ false) × (option_and_then (take_word r number) (word_named r.setup name line) ≡ Some s)).
+    let w = and_then_is (take_word r number) (word_named r.setup name line) s c.1 in
+    word-sound r s number w.0 h (word-fits r.setup name line w.0 w.1) w.2)
+    (if_is (bytes_eq name (codes "setup")) (take_setup r line) (option_and_then (take_word r number) (word_named r.setup name line)) s is)
+
+data-sound : (r s : Reading) (number : ℕ) (line : Data) → IsSoundSoFar r → take_data r number line ≡ Some s → IsSoundSoFar s
+data-sound r s number line h is =
+    let n = and_then_is (λ name. take_named r number name line) (text_in (codes "do") line) s is in
+    named-sound r s number n.0 line h n.2
+
+line-sound : (r s : Reading) (number : ℕ) (line : List ℕ) → IsSoundSoFar r → take_line r number line ≡ Some s → IsSoundSoFar s
+line-sound r s number line h is =
+    ⊎_elim (λ (c : (is_blank line ≡ true) × (Some r ≡ Some s)). let same : r ≡ s = cc in subst IsSoundSoFar same h)
+    (λ (c : (is_blank line ≡ false) × (option_and_then (take_data r number) (line_data line) ≡ Some s)).
+    let d = and_then_is (take_data r number) (line_data line) s c.1 in
+    data-sound r s number d.0 h d.2)
+    (if_is (is_blank line) (Some r) (option_and_then (take_data r number) (line_data line)) s is)
+
+after_is : (number : ℕ) (o : Option Reading) (later : Reading → ScriptRead) (script : ScriptState) → unless_refused number o later ≡ Accepted script → (s : Reading) × (o ≡ Some s) × (later s ≡ Accepted script)
+after_is number None later script is = cc
+after_is number (Some s) later script is = (s, refl, is)
+
+from-sound : (ls : List (List ℕ)) (number : ℕ) (r : Reading) (script : ScriptState) → IsSoundSoFar r → read_from ls number r ≡ Accepted script → IsSound script
+from-sound [] number r script h is =
+    let same : said r ≡ script = cc in
+    subst IsSound same h.sound
+from-sound (l ∷ ls) number r script h is =
+    let s = after_is number (take_line r number l) (read_from ls (number + 1)) script is in
+    from-sound ls (number + 1) s.0 script (line-sound r s.0 number l h s.1) s.2
+
+-- every accepted script is sound
+pub accepted_sound : (text : List ℕ) (script : ScriptState) → read_lines text ≡ Accepted script → IsSound script
+accepted_sound text script is =
+    from-sound (lines text) 1 at_first script (record { sound = record { built = refl; fits = refl; new = refl }; empty = λ e. refl }) is

@@ -1,0 +1,136 @@
+//! Worked scripts.
+use crate::{Reason, ScriptRefused, ScriptWord, Status, read_script};
+use std::alloc::Global;
+use std::test::Fail;
+
+/// What is told of a script here: its nodes, its hashes and the lines of its items.
+fn told(alloc: Global, text: &[u8]) -> Result<(u8, u8, Vec<u64>), ScriptRefused> {
+    let script = read_script(alloc, text)?;
+    let mut lines = Vec::new(alloc);
+    for item in script.items() {
+        if lines.push(item.line).is_err() {
+            return Err(ScriptRefused::OutOfMemory);
+        }
+    }
+    Ok((script.setup().nodes(), script.setup().hashes(), lines))
+}
+
+#[test]
+fn accepts_scripts(rt: HostRuntime) -> Result<(), Fail> {
+    let setup = "{\"do\":\"setup\",\"nodes\":3,\"hash\":1}\n";
+    let put = "{\"do\":\"put\",\"op\":1,\"node\":0,\"key\":\"a\",\"value\":\"x\"}\n";
+    let first_write = format!(in rt.alloc(); "{setup}{put}{{\"do\":\"deliver\",\"message\":3}}")?;
+    let with_blanks = format!(in rt.alloc(); "\n \t\r\n{setup}\n\n{put}\n")?;
+    let cases: [(&str, u8, u8, &[u64]); 6] = [
+        ("", 1, 8, &[]),
+        (first_write.as_str(), 3, 1, &[2, 3]),
+        (with_blanks.as_str(), 3, 1, &[6]),
+        ("{\"do\":\"setup\",\"nodes\":7}", 7, 8, &[]),
+        (
+            "{\"do\":\"put\",\"do\":\"deliver\",\"message\":1}",
+            1,
+            8,
+            &[1],
+        ),
+        (
+            "{\"do\":\"deliver\",\"message\":18446744073709551615}\r\n",
+            1,
+            8,
+            &[1],
+        ),
+    ];
+    for (text, nodes, hashes, lines) in cases {
+        let (read_nodes, read_hashes, read_lines) = told(rt.alloc(), text.as_bytes())?;
+        assert_eq!(rt; read_nodes, nodes, "{text}");
+        assert_eq!(rt; read_hashes, hashes, "{text}");
+        assert_eq!(rt; read_lines.as_slice(), lines, "{text}");
+    }
+    let script = read_script(rt.alloc(), first_write.as_bytes())?;
+    assert_eq!(rt; script.items().len(), 2);
+    assert!(rt; matches!(&script.items()[1].word, ScriptWord::Deliver { message: 3 }));
+    Ok(())
+}
+
+#[test]
+fn refuses_the_first_bad_line(rt: HostRuntime) -> Result<(), Fail> {
+    let good = "{\"do\":\"deliver\",\"message\":1}\n";
+    let cases: [&str; 24] = [
+        "{\"do\":\"crash\",\"node\":0}",
+        "{\"do\":\"delete\",\"op\":1,\"node\":0,\"key\":\"a\"}",
+        "{\"do\":\"read\",\"op\":1,\"node\":0,\"key\":\"a\"}",
+        "{\"do\":\"giveup\",\"node\":0,\"for\":1}",
+        "{\"do\":\"lose\",\"message\":1}",
+        "{\"do\":\"flush\"}",
+        "{\"do\":\"setup\",\"nodes\":3}",
+        "{\"do\":\"put\",\"op\":1,\"node\":1,\"key\":\"a\",\"value\":\"x\"}",
+        "{\"do\":\"put\",\"op\":1,\"node\":0,\"key\":\"\",\"value\":\"x\"}",
+        "{\"do\":\"put\",\"op\":1,\"node\":0,\"key\":1,\"value\":\"x\"}",
+        "{\"do\":\"put\",\"op\":1,\"node\":0,\"key\":\"a\"}",
+        "{\"do\":\"put\",\"op\":1,\"node\":0,\"key\":\"a\",\"value\":\"x\",\"after\":0}",
+        "{\"do\":\"put\",\"op\":-1,\"node\":0,\"key\":\"a\",\"value\":\"x\"}",
+        "{\"do\":\"deliver\",\"message\":1.0}",
+        "{\"do\":\"deliver\",\"message\":18446744073709551616}",
+        "{\"do\":\"deliver\",\"message\":1} {}",
+        "{\"do\":\"Deliver\",\"message\":1}",
+        "{\"message\":1}",
+        "{\"do\":1,\"message\":1}",
+        "[]",
+        "\"deliver\"",
+        "deliver",
+        "{",
+        "\u{a0}",
+    ];
+    for bad in cases {
+        let text = format!(in rt.alloc(); "{good}{bad}\n{bad}")?;
+        assert_eq!(rt;
+            told(rt.alloc(), text.as_bytes()).err(),
+            Some(ScriptRefused::Line(2, Reason::NotBuilt)),
+            "{bad}"
+        );
+    }
+    let first: [&[u8]; 5] = [
+        b"\xff",
+        b"{\"do\":\"setup\",\"nodes\":0}",
+        b"{\"do\":\"setup\",\"nodes\":8}",
+        b"{\"do\":\"setup\",\"nodes\":3,\"hash\":3}",
+        b"{\"do\":\"setup\",\"nodes\":3,\"hash\":null}",
+    ];
+    for bad in first {
+        assert_eq!(rt;
+            told(rt.alloc(), bad).err(),
+            Some(ScriptRefused::Line(1, Reason::NotBuilt))
+        );
+    }
+    Ok(())
+}
+
+#[test]
+fn keeps_lengths_and_numbers(rt: HostRuntime) -> Result<(), Fail> {
+    let cases: [(u64, usize, usize, Option<u64>); 5] = [
+        (2, 64, 1024, None),
+        (2, 1, 0, None),
+        (1, 1, 1, Some(2)),
+        (2, 65, 1, Some(2)),
+        (2, 1, 1025, Some(2)),
+    ];
+    for (op, key_length, value_length, refused) in cases {
+        let key = "k".repeat(rt.alloc(), key_length)?;
+        let value = "v".repeat(rt.alloc(), value_length)?;
+        let text = format!(in rt.alloc();
+            "{{\"do\":\"put\",\"op\":1,\"node\":0,\"key\":\"a\",\"value\":\"\"}}\n{{\"do\":\"put\",\"op\":{op},\"node\":0,\"key\":\"{key}\",\"value\":\"{value}\"}}"
+        )?;
+        let expected = match refused {
+            Some(line) => Some(ScriptRefused::Line(line, Reason::NotBuilt)),
+            None => None,
+        };
+        assert_eq!(rt;
+            told(rt.alloc(), text.as_bytes()).err(),
+            expected,
+            "{op} {key_length} {value_length}"
+        );
+    }
+    let reason = Reason::NotBuilt;
+    assert!(rt; reason.text() == "not_built");
+    assert_eq!(rt; Status::Script { line: 1, reason }.number(), 3);
+    Ok(())
+}
