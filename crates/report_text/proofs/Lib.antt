@@ -1,0 +1,4 @@
+mod Keeping
+mod Lists
+mod Telling
+mod Utf8
