@@ -1,3 +1,4 @@
+mod Joined
 mod Keeping
 mod Lists
 mod Telling

@@ -141,8 +141,8 @@ pub fn print_report<K: Sink>(
     ensures part { OnErr result
         (let text = joined (report setup items.now journal.now.past refused.now ending) in
         (n : ℕ) × (n ≤ length text) × Appends (K.held sink.old) (take n text) (K.held sink.new)) }
-    ensures fault { IfErr result (λ why. why ≡ WriteFault → IsTrue (rose (K.faults sink.old) (K.faults sink.new))) }
-    ensures untouched { IfErr result (λ why. why ≡ OutOfMemory → K.held sink.new ≡ K.held sink.old) }
+    ensures fault { IsErrOf result PrintRefused.WriteFault → IsTrue (rose (K.faults sink.old) (K.faults sink.new)) }
+    ensures untouched { IsErrOf result PrintRefused.OutOfMemory → K.held sink.new ≡ K.held sink.old }
     ensures never_falls { K.faults sink.old ≤ K.faults sink.new }
 {
     let lines = lines_of(alloc, setup, items, journal, refused, ending)?;
