@@ -1,5 +1,5 @@
 -- Laws of answers that are kept one after another.
-use Rattle.std.proofs.Common.{◌≡◌, ℕ, ◌==◌, Bool, true, false, cond, List, [], ◌∷◌, Option, Some, None, refl, ap, sym, ◌∙◌}
+use Rattle.std.proofs.Common.{◌≡◌, Bool, true, false, cond, List, [], ◌∷◌, Option, Some, None, refl, ap, sym, ◌∙◌}
 use Rattle.register_laws.specs.declared.operation.OpId.{OpId}
 use Rattle.register_laws.specs.Lists.{same_op}
 use Rattle.exec_types.specs.declared.outcome.Outcome.{Outcome}

@@ -1,5 +1,5 @@
 -- Laws of lists in the order of a journal.
-use Rattle.std.proofs.Common.{◌≡◌, ℕ, ◌+◌, ◌<◌, ◌≤◌, List, [], ◌∷◌, ◌++◌, take, length, get_or, reverse, refl, ap, sym, ◌∙◌, arith}
+use Rattle.std.proofs.Common.{◌≡◌, ℕ, ◌+◌, ◌<◌, List, [], ◌∷◌, take, length, get_or, reverse, ap, sym, ◌∙◌}
 use Rattle.std.proofs.lemmas.List.{take_more, reverse-append}
 
 -- one element more

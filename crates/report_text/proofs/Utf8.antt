@@ -1,5 +1,5 @@
 -- Laws of printed texts.
-use Rattle.std.proofs.Common.{◌≡◌, ℕ, Bool, true, false, cond, codes, List, refl, ap}
+use Rattle.std.proofs.Common.{◌≡◌, ℕ, true, false, cond, codes, List, refl, ap}
 use Rattle.std.specs.Str.{IsUtf8, is_utf8}
 use Rattle.std.proofs.lemmas.Str.{is_utf8-from_IsUtf8, IsUtf8-from_is_utf8}
 use Rattle.serde_json.specs.Data.{string}

@@ -1,5 +1,5 @@
 -- The report: one line a fact, each ending with LF.
-use Rattle.std.specs.Prelude.{ℕ, Bool, true, false, codes, List, [], ◌∷◌, ◌++◌, map, filter, Option, Some, None, if◌then◌else◌}
+use Rattle.std.specs.Prelude.{ℕ, Bool, codes, List, [], ◌∷◌, ◌++◌, map, Option, Some, None, if◌then◌else◌}
 use Rattle.std.specs.Fmt.{decimal}
 use Rattle.std.specs.Str.{is_utf8}
 use Rattle.std.specs.Ordering.{nat_cmp}
@@ -9,7 +9,6 @@ use Rattle.serde_json.specs.Data.{string}
 use Rattle.serde_json.specs.Written.{compact_text}
 use Rattle.region_map.specs.declared.id.Id.{Id}
 use Rattle.register_laws.specs.declared.operation.OpId.{OpId}
-use Rattle.register_laws.specs.declared.operation.Op.{Op}
 use Rattle.register_laws.specs.declared.operation.Reply.{Reply}
 use Rattle.register_laws.specs.declared.operation.Reply.TheVariants.{Was, Swapped, Kept}
 use Rattle.register_laws.specs.declared.operation.Told.{Told}

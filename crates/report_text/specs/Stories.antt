@@ -6,7 +6,7 @@ use Rattle.std.specs.Cmp.Lexicographic.{slice_cmp}
 use Rattle.std.specs.BTreeMap.{BTreeMap, get}
 use Rattle.node_core.specs.declared.journal.Entry.{Entry}
 use Rattle.world_core.specs.Story.{Point, is_on_path, is_shown_point}
-use Rattle.report_text.specs.Report.{Text, ended, bytes_text}
+use Rattle.report_text.specs.Report.{ended, bytes_text}
 
 -- texts by key
 abbrev pub Texts : Type 0

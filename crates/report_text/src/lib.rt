@@ -18,4 +18,6 @@ pub mod print_refused;
 pub mod printed;
 pub mod printing;
 mod stories;
+#[cfg(test)]
+mod tests;
 pub mod texts;

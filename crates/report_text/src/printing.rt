@@ -1,5 +1,5 @@
 //! The lines of a report, and printing them.
-ghost use Rattle.std.specs.Prelude.{◌≡◌, ◌++◌, ◌∷◌, [], ◌<◌, ◌≤◌, ℕ, length, take, map, IfOk, OnOk, OnErr, IfErr, IsErrOf, IsTrue};
+ghost use Rattle.std.specs.Prelude.{◌≡◌, ◌++◌, [], ◌<◌, ◌≤◌, ℕ, length, take, map, IfOk, OnOk, OnErr, IsErrOf, IsTrue};
 ghost use Rattle.line_io.specs.Bytes.{Appends};
 ghost use Rattle.line_io.specs.Counts.{rose};
 ghost use Rattle.report_text.specs.Report.{with_op_line, op_lines, refusal_line, story_line, keys_from, report, joined};

@@ -1,4 +1,4 @@
-use Rattle.std.proofs.Common.{ap, ◌∙◌, ◌++◌, List, ℕ}
+use Rattle.std.proofs.Common.{ap, ◌∙◌, ◌++◌}
 use Rattle.report_text.specs.Stories.{told_op}
 use Rattle.report_text.proofs.Telling.{tell-one}
 use Rattle.report_text.proofs.stories.tell.Goals as goal

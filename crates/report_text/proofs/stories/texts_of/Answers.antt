@@ -1,4 +1,4 @@
-use Rattle.std.proofs.Common.{ap, sym, ◌∙◌, List, ℕ, take, reverse}
+use Rattle.std.proofs.Common.{ap, sym, ◌∙◌, List, take, reverse}
 use Rattle.node_core.specs.declared.journal.Entry.{Entry}
 use Rattle.world_core.specs.Story.{points}
 use Rattle.report_text.specs.Stories.{text_at, points_text}
