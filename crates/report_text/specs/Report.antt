@@ -1,5 +1,5 @@
 -- The report: one line a fact, each ending with LF.
-use Rattle.std.specs.Prelude.{ℕ, Bool, true, false, codes, List, [], ◌∷◌, ◌++◌, map, filter, Option, Some, None, if◌then◌else◌}
+use Rattle.std.specs.Prelude.{ℕ, Bool, codes, List, [], ◌∷◌, ◌++◌, map, Option, Some, None, if◌then◌else◌}
 use Rattle.std.specs.Fmt.{decimal}
 use Rattle.std.specs.Str.{is_utf8}
 use Rattle.std.specs.Ordering.{nat_cmp}
@@ -9,7 +9,6 @@ use Rattle.serde_json.specs.Data.{string}
 use Rattle.serde_json.specs.Written.{compact_text}
 use Rattle.region_map.specs.declared.id.Id.{Id}
 use Rattle.register_laws.specs.declared.operation.OpId.{OpId}
-use Rattle.register_laws.specs.declared.operation.Op.{Op}
 use Rattle.register_laws.specs.declared.operation.Reply.{Reply}
 use Rattle.register_laws.specs.declared.operation.Reply.TheVariants.{Was, Swapped, Kept}
 use Rattle.register_laws.specs.declared.operation.Told.{Told}
@@ -25,6 +24,8 @@ use Rattle.world_core.specs.Story.{answer, story}
 use Rattle.script_text.specs.declared.script.ScriptWord.{ScriptWord}
 use Rattle.script_text.specs.declared.script.ScriptWord.TheVariants.{Request, GiveUp, Deliver, Lose, Flush}
 use Rattle.script_text.specs.declared.script.ScriptItem.{ScriptItem}
+use Rattle.script_text.specs.declared.status.Reason.{Reason}
+use Rattle.script_text.specs.Statuses.{reason_text}
 use Rattle.report_text.specs.declared.ending.EventRefused.{EventRefused}
 use Rattle.report_text.specs.declared.ending.EventRefused.TheVariants.{NoSuchMessage}
 use Rattle.report_text.specs.declared.ending.Refusal.{Refusal}
@@ -139,8 +140,11 @@ abbrev pub ending_line : Ending → Text
 ending_line End = ended (codes "end")
 ending_line (Limit which number) = limit_line which number
 
+abbrev pub hash_text : ℕ → Text
+hash_text hashes = codes " hash " ++ decimal hashes ++ codes " shards 1"
+
 abbrev pub header_line : SetupState → Text
-header_line setup = ended (codes "table nodes " ++ decimal setup.nodes ++ codes " hash " ++ decimal setup.hashes ++ codes " shards 1")
+header_line setup = ended (codes "table nodes " ++ decimal setup.nodes ++ hash_text setup.hashes)
 
 -- the lines of the report of a script, its journal, the events that were refused, and how the run ended
 abbrev pub report : SetupState → List ScriptItem → List Entry → List Refusal → Ending → List Text
@@ -152,3 +156,15 @@ report setup items past refused ending =
 abbrev pub joined : List Text → Text
 joined [] = []
 joined (line ∷ lines) = line ++ joined lines
+
+-- ---- lines that stand alone
+
+abbrev pub usage_line : Text
+usage_line = ended (codes "usage")
+
+abbrev pub read_fault_line : Text
+read_fault_line = ended (codes "read fault")
+
+-- the line of a script that is refused, and why
+abbrev pub script_line : ℕ → Reason → Text
+script_line line reason = ended (codes "script " ++ decimal line ++ codes " " ++ reason_text reason)

@@ -5,5 +5,19 @@
 #![tactic(auto)]
 
 pub use ending::{Ending, EventRefused, Refusal};
+pub use memory::OutOfMemory;
+pub use print_refused::PrintRefused;
+pub use printed::Printed;
+pub use printing::print_report;
+pub use texts::{limit_line, read_fault_line, script_line, usage_line};
 
+mod answered;
 pub mod ending;
+mod known;
+pub mod print_refused;
+pub mod printed;
+pub mod printing;
+mod stories;
+#[cfg(test)]
+mod tests;
+pub mod texts;

@@ -1,0 +1,44 @@
+-- Laws of answers that are kept one after another.
+use Rattle.std.proofs.Common.{◌≡◌, Bool, true, false, cond, List, [], ◌∷◌, Option, Some, None, refl, ap, sym, ◌∙◌}
+use Rattle.register_laws.specs.declared.operation.OpId.{OpId}
+use Rattle.register_laws.specs.Lists.{same_op}
+use Rattle.exec_types.specs.declared.outcome.Outcome.{Outcome}
+use Rattle.exec_types.specs.declared.output.Output.{Output}
+use Rattle.exec_types.specs.declared.output.Output.TheVariants.{Message, Dispatched, Answer}
+use Rattle.world_core.specs.Story.{answer_in, or_else}
+use Rattle.report_text.specs.declared.answered.Answered.{Answered}
+use Rattle.report_text.specs.Known.{all_answered, or_answered}
+
+pub all_answered-or_else : (a b : Option Outcome) → all_answered (or_else a b) ≡ or_answered (all_answered a) (all_answered b)
+all_answered-or_else None b = refl
+all_answered-or_else (Some a) b = refl
+
+pub or_answered-assoc : (a b c : Option Answered) → or_answered (or_answered a b) c ≡ or_answered a (or_answered b c)
+or_answered-assoc None b c = refl
+or_answered-assoc (Some a) b c = refl
+
+or_else-cond : (b : Bool) (o : Outcome) (later : Option Outcome) → (cond b (Some o) later) ≡ or_else (cond b (Some o) None) later
+or_else-cond true o later = refl
+or_else-cond false o later = refl
+
+pub answer_in-cons : (x : Output) (outs : List Output) (op : OpId) → answer_in (x ∷ outs) op ≡ or_else (answer_in (x ∷ []) op) (answer_in outs op)
+answer_in-cons (Message to message) outs op = refl
+answer_in-cons (Dispatched q key branch timestamp) outs op = refl
+answer_in-cons (Answer q outcome) outs op = or_else-cond (same_op q op) outcome (answer_in outs op)
+
+-- one output more
+pub keep-more : (a b : Option Answered) (x : Output) (outs : List Output) (op : OpId) → b ≡ or_answered a (all_answered (answer_in (x ∷ []) op)) → or_answered b (all_answered (answer_in outs op)) ≡ or_answered a (all_answered (answer_in (x ∷ outs) op))
+keep-more a b x outs op kept =
+    ap (λ (k : Option Answered). or_answered k (all_answered (answer_in outs op))) kept
+    ∙ or_answered-assoc a (all_answered (answer_in (x ∷ []) op)) (all_answered (answer_in outs op))
+    ∙ ap (or_answered a) (sym (all_answered-or_else (answer_in (x ∷ []) op) (answer_in outs op)))
+    ∙ ap (λ (o : Option Outcome). or_answered a (all_answered o)) (sym (answer_in-cons x outs op))
+
+pub or_answered-none : (a : Option Answered) → or_answered a None ≡ a
+or_answered-none None = refl
+or_answered-none (Some a) = refl
+
+-- an output more is kept as its own
+pub kept_as : (b : Bool) (o : Outcome) → all_answered (cond b (Some o) None) ≡ cond b (all_answered (Some o)) None
+kept_as true o = refl
+kept_as false o = refl

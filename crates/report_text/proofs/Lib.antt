@@ -1,0 +1,5 @@
+mod Joined
+mod Keeping
+mod Lists
+mod Telling
+mod Utf8

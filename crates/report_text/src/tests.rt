@@ -1,0 +1,236 @@
+use super::*;
+use contract_types::{Counts, Setup, Which};
+use exec_types::{Input, Outcome, Output, Outputs};
+use line_io::MemorySink;
+use node_core::{Entry, Journal};
+use region_map::{Id, Key, NodeId};
+use register_laws::{Op, OpId, Reply, Value};
+use script_text::{Reason, ScriptItem, ScriptWord};
+use std::alloc::Global;
+use std::test::Fail;
+
+const FIRST: Id = Id {
+    node: NodeId(0),
+    life: 1,
+    counter: 0,
+};
+
+fn value(alloc: Global, text: &str) -> Result<Option<Value>, Fail> {
+    Ok(Some(Value::new(text.as_bytes().to_vec(alloc)?)?))
+}
+
+fn done(reply: Reply, timestamp: u64) -> Option<Outcome> {
+    Some(Outcome::Done {
+        reply,
+        branch: FIRST,
+        timestamp,
+    })
+}
+
+fn item(alloc: Global, op: u64, key: &str, what: Op) -> Result<ScriptItem, Fail> {
+    Ok(ScriptItem {
+        line: op,
+        word: ScriptWord::Request {
+            op: OpId(op),
+            node: NodeId(0),
+            key: Key::new(key.as_bytes().to_vec(alloc)?)?,
+            what,
+        },
+    })
+}
+
+/// The step of a node that was asked, and dispatched the operation at a timestamp above 0.
+fn entry(
+    alloc: Global,
+    op: u64,
+    key: &str,
+    what: Op,
+    timestamp: u64,
+    outcome: Option<Outcome>,
+) -> Result<Entry, Fail> {
+    let op = OpId(op);
+    let key = Key::new(key.as_bytes().to_vec(alloc)?)?;
+    let mut outputs = Outputs::new(alloc);
+    if timestamp > 0 {
+        outputs.push(Output::Dispatched {
+            op,
+            key: key.copy(alloc)?,
+            branch: FIRST,
+            timestamp,
+        })?;
+    }
+    if let Some(outcome) = outcome {
+        outputs.push(Output::Answer { op, outcome })?;
+    }
+    Ok(Entry {
+        node: NodeId(0),
+        input: Input::Request { op, key, what },
+        outputs,
+    })
+}
+
+fn read_items(alloc: Global, keys: &[&str]) -> Result<Vec<ScriptItem>, Fail> {
+    let mut items = Vec::new(alloc);
+    let mut op = 0;
+    for key in keys {
+        op = (op % 1000) + 1;
+        items.push(item(alloc, op, key, Op::Read)?)?;
+    }
+    Ok(items)
+}
+
+fn play(
+    alloc: Global,
+    journal: &mut Journal,
+    op: u64,
+    key: &str,
+    what: Op,
+    timestamp: u64,
+    outcome: Option<Outcome>,
+) -> Result<(), Fail> {
+    journal.push(entry(alloc, op, key, what, timestamp, outcome)?)?;
+    Ok(())
+}
+
+fn play_on_a(alloc: Global, journal: &mut Journal) -> Result<(), Fail> {
+    let quoted = value(alloc, "\u{e9}\"")?;
+    play(
+        alloc,
+        journal,
+        2,
+        "a",
+        Op::Delete,
+        3,
+        done(Reply::Was(quoted), 3),
+    )?;
+    let kept = value(alloc, "x")?;
+    play(
+        alloc,
+        journal,
+        3,
+        "a",
+        Op::Delete,
+        4,
+        done(Reply::Kept(kept), 4),
+    )?;
+    play(
+        alloc,
+        journal,
+        4,
+        "a",
+        Op::Delete,
+        5,
+        done(Reply::Swapped, 5),
+    )?;
+    play(
+        alloc,
+        journal,
+        5,
+        "a",
+        Op::Read,
+        6,
+        done(Reply::Kept(None), 6),
+    )
+}
+
+fn play_on_b(alloc: Global, journal: &mut Journal) -> Result<(), Fail> {
+    let counts = Counts {
+        voters: 1,
+        of: 3,
+        temp: Some((2, 5)),
+    };
+    play(
+        alloc,
+        journal,
+        1,
+        "b",
+        Op::Delete,
+        2,
+        done(Reply::Was(None), 2),
+    )?;
+    play(
+        alloc,
+        journal,
+        6,
+        "b",
+        Op::Delete,
+        0,
+        Some(Outcome::NotServing),
+    )?;
+    play(
+        alloc,
+        journal,
+        7,
+        "b",
+        Op::Delete,
+        7,
+        Some(Outcome::NoMajority(counts)),
+    )?;
+    play(alloc, journal, 8, "b", Op::Read, 8, None)
+}
+
+const ALL_FATES: &str =
+    "table nodes 3 hash 8 shards 1\nop 1 done none 0.1.0:2\nop 2 done \"\u{e9}\\\"\" 0.1.0:3\nop 3 done kept \"x\" 0.1.0:4\nop 4 done swapped 0.1.0:5\nop 5 done kept none 0.1.0:6\nop 6 unavailable not_serving\nop 7 unavailable no_majority voters 1 of 3 temp 2 of 5\nop 8 open\nop 9 unsent\nrefused 12 no_such_message\nstory \"a\" 2 3 4 5\nstory \"b\" 1 7\nlimit journal_entries 20000\n";
+
+#[test]
+fn tells_what_became_of_each_operation(rt: HostRuntime) -> Result<(), Fail> {
+    let alloc = rt.alloc();
+    let items = read_items(alloc, &["b", "a", "a", "a", "a", "b", "b", "b", "b"])?;
+    let mut journal = Journal::empty(alloc);
+    play_on_b(alloc, &mut journal)?;
+    play_on_a(alloc, &mut journal)?;
+    let refused = [Refusal {
+        line: 12,
+        reason: EventRefused::NoSuchMessage,
+    }];
+    let ending = Ending::Limit {
+        which: Which::JournalEntries,
+        number: 20000,
+    };
+    let mut sink = MemorySink::new(alloc, Vec::new(alloc));
+    sink.reserve(1000)?;
+    let setup = Setup::new(3, 8);
+    print_report(alloc, setup, &items, &journal, &refused, ending, &mut sink)?;
+    assert_eq!(rt; sink.bytes(), ALL_FATES.as_bytes());
+    Ok(())
+}
+
+#[test]
+fn stops_at_a_fault(rt: HostRuntime) -> Result<(), Fail> {
+    let alloc = rt.alloc();
+    let items = read_items(alloc, &["k"])?;
+    let mut sink = MemorySink::new(alloc, vec![in alloc; 3]?);
+    sink.reserve(1000)?;
+    let journal = Journal::empty(alloc);
+    let printed = print_report(
+        alloc,
+        Setup::new(1, 1),
+        &items,
+        &journal,
+        &[],
+        Ending::End,
+        &mut sink,
+    );
+    assert_eq!(rt; printed, Err(PrintRefused::WriteFault));
+    assert_eq!(rt;
+        sink.bytes(),
+        b"table nodes 1 hash 1 shards 1\nop 1 unsent\n".as_slice()
+    );
+    Ok(())
+}
+
+#[test]
+fn lines_that_stand_alone(rt: HostRuntime) -> Result<(), Fail> {
+    let alloc = rt.alloc();
+    assert_eq!(rt; usage_line(), "usage\n");
+    assert_eq!(rt; read_fault_line(), "read fault\n");
+    assert_eq!(rt;
+        limit_line(alloc, Which::LineBytes, 4096)?.as_str(),
+        "limit line_bytes 4096\n"
+    );
+    assert_eq!(rt;
+        script_line(alloc, 3, Reason::NotBuilt)?.as_str(),
+        "script 3 not_built\n"
+    );
+    Ok(())
+}
