@@ -1,0 +1,4 @@
+//! Plays scripts.
+#![tactic(auto)]
+
+pub fn nothing() {}
