@@ -1,3 +1,5 @@
 pub mod Bits
 pub mod Keys
 pub mod Nodes
+pub mod Regions
+pub mod Maps

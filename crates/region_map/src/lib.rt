@@ -12,11 +12,13 @@ pub use node_set::{Members, NodeSet, majorities_meet, majority};
 pub use region::Region;
 pub use step_refused::StepRefused;
 
+pub mod bound;
 pub mod hash;
 pub mod id;
 pub mod key;
 pub mod node_set;
 pub mod region;
+pub mod row;
 pub mod step_refused;
 
 /// The most nodes that a table has.
