@@ -3,3 +3,4 @@ pub mod Keys
 pub mod Nodes
 pub mod Regions
 pub mod Maps
+pub mod Rows

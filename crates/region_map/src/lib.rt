@@ -11,6 +11,7 @@ pub use memory::OutOfMemory;
 pub use node_set::{Members, NodeSet, majorities_meet, majority};
 pub use region::Region;
 pub use step_refused::StepRefused;
+pub use value::{Combine, MapValue};
 
 pub mod bound;
 pub mod hash;
@@ -19,7 +20,9 @@ pub mod key;
 pub mod node_set;
 pub mod region;
 pub mod row;
+pub mod stretch;
 pub mod step_refused;
+pub mod value;
 
 /// The most nodes that a table has.
 pub const MAX_NODES: u8 = 7;
