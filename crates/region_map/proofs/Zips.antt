@@ -18,7 +18,7 @@ not_open : (from to : Option (List ℕ)) (k : List ℕ) → is_open from to ≡ 
 not_open from None k h i = absurd (cc)
 not_open from (Some t) k h i = not_before t (low from) k h i
 
-never_in : (from to : Option (List ℕ)) (k : List ℕ) → is_open from to ≡ false → in_range from to k ≡ false
+pub never_in : (from to : Option (List ℕ)) (k : List ℕ) → is_open from to ≡ false → in_range from to k ≡ false
 never_in from to k h =
     elim (before k (low from)) as (λ b. before k (low from) ≡ b → (not b && below k to) ≡ false) [
       | true ↦ λ e. refl

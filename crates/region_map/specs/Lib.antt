@@ -1,4 +1,6 @@
+pub mod Bands
 pub mod Bits
+pub mod Calls
 pub mod Keys
 pub mod Nodes
 pub mod Regions

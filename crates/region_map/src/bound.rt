@@ -87,3 +87,15 @@ pub fn copy_bound(alloc: Global, bound: &Option<Key>) -> Result<Option<Key>, Out
         }
     }
 }
+
+/// That a bound is a key.
+pub fn is_known(bound: &Option<Key>)
+    ensures { IsTrue (is_bound bound.now) }
+{
+    match bound {
+        None => {}
+        Some(key) => {
+            let _bytes = key.as_bytes();
+        }
+    }
+}

@@ -7,16 +7,19 @@
 pub use hash::hash_of;
 pub use id::{Id, NodeId};
 pub use key::{Key, KeyLength};
+pub use map::RegionMap;
 pub use memory::OutOfMemory;
 pub use node_set::{Members, NodeSet, majorities_meet, majority};
 pub use region::Region;
 pub use step_refused::StepRefused;
 pub use value::{Combine, MapValue};
 
+pub mod band;
 pub mod bound;
 pub mod hash;
 pub mod id;
 pub mod key;
+pub mod map;
 pub mod node_set;
 pub mod region;
 pub mod row;

@@ -1,7 +1,7 @@
 //! The stretches of keys that one hash has in a region map, those without a value among them.
-ghost use Rattle.std.specs.Prelude.{◌≡◌, ◌+◌, ◌≤◌, ◌<◌, ◌++◌, length, drop, IfOk, Some, IsTrue};
+ghost use Rattle.std.specs.Prelude.{◌≡◌, ◌+◌, ◌≤◌, ◌<◌, ◌++◌, length, drop, [], ◌∷◌, IfOk, OnOk, Some};
 ghost use Rattle.std.specs.Option.{option_copied};
-ghost use Rattle.region_map.specs.Rows.{ranges_at, stretches_of, head_value, head_end, sooner, sooner_of};
+ghost use Rattle.region_map.specs.Rows.{at_hash, gap, ranges_at, stretches_of, head_value, head_end, sooner, sooner_of};
 
 use crate::bound::{copy_bound, is_before};
 use crate::value::MapValue;
@@ -26,20 +26,51 @@ pub fn stretches_at<V: MapValue>(
 {
     let mut row = Vec::new(alloc);
     for piece in pieces {
-        if piece.0.hash_from <= hash && hash < piece.0.hash_to {
-            if let Some(bound) = &piece.0.from {
-                row.push(Stretch {
-                    value: None,
-                    to: Some(bound.copy(alloc)?),
-                })?;
-            }
-            row.push(Stretch {
-                value: Some(piece.1.copy(alloc)?),
-                to: copy_bound(alloc, &piece.0.to)?,
-            })?;
+        if has_hash(&piece.0, hash) {
+            add_gap(&mut row, alloc, &piece.0.from)?;
+            add_value(&mut row, alloc, &piece.1, &piece.0.to)?;
         }
     }
     Ok(row)
+}
+
+/// Whether a region has keys of a hash.
+fn has_hash(region: &Region, hash: u8) -> bool
+    ensures { result ≡ at_hash region.now hash }
+{
+    region.hash_from <= hash && hash < region.hash_to
+}
+
+/// Adds the stretch without a value up to the begin of a range.
+fn add_gap<V: MapValue>(row: &mut Vec<Stretch<V>>, alloc: Global, from: &Option<Key>) -> Result<(), OutOfMemory>
+    ensures { OnOk result (row.new.items ≡ row.old.items ++ gap from.now) }
+{
+    match from {
+        None => {}
+        Some(bound) => row.push(Stretch {
+            value: None,
+            to: Some(bound.copy(alloc)?),
+        })?,
+    }
+    Ok(())
+}
+
+/// Adds the stretch with a value up to an end.
+fn add_value<V: MapValue>(
+    row: &mut Vec<Stretch<V>>,
+    alloc: Global,
+    value: &V,
+    to: &Option<Key>,
+) -> Result<(), OutOfMemory>
+    ensures { OnOk result (row.new.items ≡ row.old.items ++ record { value = Some value.now; to = to.now } ∷ []) }
+{
+    let value = value.copy(alloc)?;
+    let to = copy_bound(alloc, to)?;
+    row.push(Stretch {
+        value: Some(value),
+        to,
+    })?;
+    Ok(())
 }
 
 /// The value of the stretch at a place, of which there is none behind the last.
