@@ -1,0 +1,186 @@
+//! The branches that are known, and what their births say of paths.
+ghost use Rattle.std.specs.Prelude.{◌≡◌, ◌↔◌, ℕ, ◌&&◌, not, nat_le, List, [], ◌∷◌, IsTrue, IfOk, OnOk, OnErr, IsErrOf};
+ghost use Rattle.std.specs.Option.{option_copied};
+ghost use Rattle.region_map.specs.Keys.{hash_of};
+ghost use Rattle.region_map.specs.Maps.{value_at};
+ghost use Rattle.branch_history.specs.Paths.{is_on, is_branch, or_zero, ancestor};
+ghost use Rattle.branch_history.specs.Histories.{birth_of, knows, knows_branch, knows_origins, HasHashes, hashes_of, IsHistory};
+
+use crate::Version;
+use crate::version::is_same_id;
+use region_map::{Id, Key, OutOfMemory, Region, RegionMap};
+use std::alloc::{AllocFailed, Global};
+use std::marker::Model;
+use thiserror::Error;
+
+/// How a branch began: the keys that it has, its initial timestamp, the versions that it goes on from, and
+/// the tenure of the primary that made it.
+#[derive(Drop)]
+pub struct BranchBirth {
+    pub region: Region,
+    pub initial: u64,
+    pub origin: RegionMap<Version>,
+    pub tenure: u64,
+}
+
+/// Why a branch was not added.
+#[derive(Clone, Copy, Debug, PartialEq, Eq, Error)]
+pub enum AddRefused {
+    #[error("the branch is known already")]
+    IdKnown,
+    #[error("the branch goes on from a branch that is not known")]
+    OriginUnknown,
+    #[error("out of memory")]
+    OutOfMemory,
+}
+
+impl<T: Drop> From<AllocFailed<T>> for AddRefused {
+    ghost use Rattle.std.specs.Prelude.{◌≡◌};
+    ghost use Rattle.branch_history.specs.declared.history.AddRefused.TheVariants.{OutOfMemory};
+
+    ghost from_gives = { λ _ e. e ≡ OutOfMemory };
+
+    fn from(_error: AllocFailed<T>) -> AddRefused {
+        AddRefused::OutOfMemory
+    }
+}
+
+/// The known branches. Contracts see them as a list, the newest first.
+#[derive(Drop)]
+pub struct History {
+    branches: Vec<(Id, BranchBirth)>,
+}
+
+impl Model for History {
+    ghost use Rattle.std.specs.Prelude.{List};
+    ghost use Rattle.region_map.specs.declared.id.Id.{Id};
+    ghost use Rattle.branch_history.specs.declared.history.BranchBirth.{BranchBirth};
+
+    ghost Value = { List (Id × BranchBirth) };
+
+    ghost view = { λ a. a.branches.items };
+
+    ghost use Rattle.branch_history.specs.Histories.{IsHistory};
+
+    ghost invariant = { λ a. IsHistory a.branches.items };
+}
+
+impl History {
+    /// The history without branches.
+    pub fn new(alloc: Global) -> History
+        ensures { result ≡ [] }
+    {
+        History {
+            branches: Vec::new(alloc),
+        }
+    }
+
+    /// The birth of a branch.
+    pub fn birth(&self, id: &Id) -> Option<&BranchBirth>
+        ensures { option_copied result ≡ birth_of self.now id.now }
+    {
+        find(&self.branches, id)
+    }
+
+    /// Adds a branch.
+    pub fn add(&mut self, id: Id, birth: BranchBirth) -> Result<(), AddRefused>
+        requires { HasHashes self.old birth.origin.hashes }
+        ensures id_known { IsErrOf result AddRefused.IdKnown ↔ IsTrue (knows self.old id) }
+        ensures origin_unknown { IsErrOf result AddRefused.OriginUnknown
+            ↔ IsTrue (not (knows self.old id) && not (knows_origins self.old birth.origin.pieces)) }
+        ensures ok { OnOk result (self.new ≡ (id, birth) ∷ self.old) }
+        ensures err { OnErr result (self.new ≡ self.old) }
+    {
+        if is_known(&self.branches, &id) {
+            return Err(AddRefused::IdKnown);
+        }
+        if !are_known(&self.branches, &birth.origin) {
+            return Err(AddRefused::OriginUnknown);
+        }
+        self.branches.insert(0, (id, birth))?;
+        Ok(())
+    }
+
+    /// Whether a point lies on the path of a version at a key.
+    pub fn path_has(&self, end: &Version, key: &Key, point: &Version) -> bool
+        ensures { result ≡ is_on self.now (hash_of key.now (hashes_of self.now)) key.now end.now point.now }
+    {
+        let mut last = *end;
+        for branch in &self.branches {
+            if last.is_of(&branch.0) {
+                if !branch.1.region.contains(key, branch.1.origin.hashes()) {
+                    return point.is_zero();
+                }
+                if is_own(branch, &last, point) {
+                    return true;
+                }
+                last = origin(&branch.1.origin, key);
+            }
+        }
+        point.is_zero()
+    }
+}
+
+/// The birth of a branch among these.
+fn find<'a>(branches: &'a [(Id, BranchBirth)], id: &Id) -> Option<&'a BranchBirth>
+    ensures { option_copied result ≡ birth_of branches.now id.now }
+{
+    for branch in branches {
+        if is_same_id(&branch.0, id) {
+            return Some(&branch.1);
+        }
+    }
+    None
+}
+
+/// Whether a branch is among these.
+fn is_known(branches: &[(Id, BranchBirth)], id: &Id) -> bool
+    ensures { result ≡ knows branches.now id.now }
+{
+    for branch in branches {
+        if is_same_id(&branch.0, id) {
+            return true;
+        }
+    }
+    false
+}
+
+/// Whether the branch of a version, if it has one, is among these.
+fn is_branch_known(branches: &[(Id, BranchBirth)], version: &Version) -> bool
+    ensures { result ≡ knows_branch branches.now version.now.branch }
+{
+    match &version.branch {
+        None => true,
+        Some(id) => is_known(branches, id),
+    }
+}
+
+/// Whether all branches that these versions name are among these.
+fn are_known(branches: &[(Id, BranchBirth)], versions: &RegionMap<Version>) -> bool
+    ensures { result ≡ knows_origins branches.now versions.now.pieces }
+{
+    for piece in versions.pieces() {
+        if !is_branch_known(branches, &piece.1) {
+            return false;
+        }
+    }
+    true
+}
+
+/// Whether a point is one of a branch's own, up to a version of it.
+fn is_own(branch: &(Id, BranchBirth), last: &Version, point: &Version) -> bool
+    ensures { result ≡ (is_branch point.now branch.now.0
+        && (nat_le branch.now.1.initial point.now.timestamp && nat_le point.now.timestamp last.now.timestamp)) }
+{
+    point.is_of(&branch.0) && (branch.1.initial <= point.timestamp && point.timestamp <= last.timestamp)
+}
+
+/// The version at a key, and the zero version where there is none.
+fn origin(versions: &RegionMap<Version>, key: &Key) -> Version
+    ensures { result ≡ or_zero (value_at versions.now.pieces (hash_of key.now versions.now.hashes) key.now) }
+{
+    match versions.get(key) {
+        None => Version::zero(),
+        Some(version) => *version,
+    }
+}
