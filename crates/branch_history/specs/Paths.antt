@@ -75,3 +75,9 @@ ancestor (b ∷ bs) h k v w =
 -- the whole of a branch, as far as timestamps go
 abbrev pub whole : Id → Version
 whole id = record { branch = Some id; timestamp = 18446744073709551615 }
+
+-- what a function of two values gives where there are both
+abbrev pub both_at : {V W X : Type 0} → (V → W → X) → Option V → Option W → Option X
+both_at f None w = None
+both_at f (Some v) None = None
+both_at f (Some v) (Some w) = Some (f v w)

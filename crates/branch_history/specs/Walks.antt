@@ -58,3 +58,7 @@ on id initial (Some walk) o = Some (stepped id initial walk o)
 abbrev pub ended : Option Walk → Option Walk → Option Version
 ended None b = None
 ended (Some walk) b = Some (finished walk)
+
+abbrev pub walked_at : Branches → ℕ → List ℕ → Option Walk → Option Version
+walked_at bs h k None = None
+walked_at bs h k (Some walk) = Some (walked bs h k walk)

@@ -3,12 +3,14 @@ ghost use Rattle.std.specs.Prelude.{◌≡◌, ◌↔◌, ℕ, ◌&&◌, not, na
 ghost use Rattle.std.specs.Option.{option_copied};
 ghost use Rattle.region_map.specs.Keys.{hash_of};
 ghost use Rattle.region_map.specs.Maps.{value_at};
-ghost use Rattle.branch_history.specs.Paths.{is_on, is_branch, or_zero, ancestor};
+ghost use Rattle.branch_history.specs.Paths.{is_on, is_branch, or_zero, ancestor, whole, both_at};
+ghost use Rattle.branch_history.specs.Walks.{on, origin_in, walked_at};
 ghost use Rattle.branch_history.specs.Histories.{birth_of, knows, knows_branch, knows_origins, HasHashes, hashes_of, IsHistory};
 
 use crate::Version;
 use crate::version::is_same_id;
-use region_map::{Id, Key, OutOfMemory, Region, RegionMap};
+use crate::walk::{Aim, End, Start, Step, Walk, Within};
+use region_map::{Id, Key, OutOfMemory, Region, RegionMap, hash_of};
 use std::alloc::{AllocFailed, Global};
 use std::marker::Model;
 use thiserror::Error;
@@ -105,20 +107,112 @@ impl History {
     pub fn path_has(&self, end: &Version, key: &Key, point: &Version) -> bool
         ensures { result ≡ is_on self.now (hash_of key.now (hashes_of self.now)) key.now end.now point.now }
     {
-        let mut last = *end;
-        for branch in &self.branches {
-            if last.is_of(&branch.0) {
-                if !branch.1.region.contains(key, branch.1.origin.hashes()) {
-                    return point.is_zero();
-                }
-                if is_own(branch, &last, point) {
-                    return true;
-                }
-                last = origin(&branch.1.origin, key);
+        match self.branches.first() {
+            None => point.is_zero(),
+            Some(branch) => {
+                let hash = hash_of(key, branch.1.origin.hashes());
+                is_on(&self.branches, hash, key, end, point)
             }
         }
-        point.is_zero()
     }
+
+    /// The last point on both paths, at each pair that both maps have.
+    pub fn common_ancestor(
+        &self,
+        alloc: Global,
+        a: &RegionMap<Version>,
+        b: &RegionMap<Version>,
+    ) -> Result<RegionMap<Version>, OutOfMemory>
+        requires hashes { a.now.hashes ≡ b.now.hashes }
+        requires history { HasHashes self.now a.now.hashes }
+        ensures hashes { IfOk result (λ m. m.hashes ≡ a.now.hashes) }
+        ensures at { IfOk result (λ m. (h : ℕ) (k : List ℕ) → value_at m.pieces h k
+            ≡ both_at (ancestor self.now h k) (value_at a.now.pieces h k) (value_at b.now.pieces h k)) }
+    {
+        let _hashes = a.hashes();
+        let walks = a.zip(alloc, b, &Start)?;
+        let ends = walk_back(alloc, &self.branches, walks)?;
+        Ok(ends)
+    }
+
+    /// Each version's last point on the path of the whole of a branch, at each pair that both maps have.
+    pub fn project(
+        &self,
+        alloc: Global,
+        versions: &RegionMap<Version>,
+        branches: &RegionMap<Id>,
+    ) -> Result<RegionMap<Version>, OutOfMemory>
+        requires hashes { versions.now.hashes ≡ branches.now.hashes }
+        requires history { HasHashes self.now versions.now.hashes }
+        ensures hashes { IfOk result (λ m. m.hashes ≡ versions.now.hashes) }
+        ensures at { IfOk result (λ m. (h : ℕ) (k : List ℕ) → value_at m.pieces h k
+            ≡ both_at (λ v id. ancestor self.now h k v (whole id)) (value_at versions.now.pieces h k) (value_at branches.now.pieces h k)) }
+    {
+        let _hashes = versions.hashes();
+        let walks = versions.zip(alloc, branches, &Aim)?;
+        let ends = walk_back(alloc, &self.branches, walks)?;
+        Ok(ends)
+    }
+}
+
+/// The walks after all branches, the newest first.
+fn walk_back(
+    alloc: Global,
+    branches: &[(Id, BranchBirth)],
+    walks: RegionMap<Walk>,
+) -> Result<RegionMap<Version>, OutOfMemory>
+    requires { HasHashes branches.now walks.hashes }
+    ensures hashes { IfOk result (λ m. m.hashes ≡ walks.hashes) }
+    ensures at { IfOk result (λ m. (h : ℕ) (k : List ℕ) → value_at m.pieces h k ≡ walked_at branches.now h k (value_at walks.pieces h k)) }
+{
+    let mut walks = walks;
+    for branch in branches {
+        walks = step_back(alloc, branch, &walks)?;
+    }
+    let ends = walks.zip(alloc, &walks, &End)?;
+    Ok(ends)
+}
+
+/// The walks after a branch.
+fn step_back(
+    alloc: Global,
+    branch: &(Id, BranchBirth),
+    walks: &RegionMap<Walk>,
+) -> Result<RegionMap<Walk>, OutOfMemory>
+    requires { branch.now.1.origin.hashes ≡ walks.now.hashes }
+    ensures hashes { IfOk result (λ m. m.hashes ≡ walks.now.hashes) }
+    ensures at { IfOk result (λ m. (h : ℕ) (k : List ℕ) → value_at m.pieces h k
+        ≡ on branch.now.0 branch.now.1.initial (value_at walks.now.pieces h k) (origin_in branch.now.1 h k)) }
+{
+    let hashes = walks.hashes();
+    let region = branch.1.region.copy(alloc)?;
+    let here = RegionMap::constant(alloc, region, hashes, true)?;
+    let origins = here.zip(alloc, &branch.1.origin, &Within)?;
+    let step = Step {
+        id: branch.0,
+        initial: branch.1.initial,
+    };
+    let new = walks.zip(alloc, &origins, &step)?;
+    Ok(new)
+}
+
+/// Whether a point lies on the path of a version at a key that has this hash.
+fn is_on(branches: &[(Id, BranchBirth)], hash: u8, key: &Key, end: &Version, point: &Version) -> bool
+    ensures { result ≡ is_on branches.now hash key.now end.now point.now }
+{
+    let mut last = *end;
+    for branch in branches {
+        if last.is_of(&branch.0) {
+            if !branch.1.region.contains_at(hash, key) {
+                return point.is_zero();
+            }
+            if is_own(branch, &last, point) {
+                return true;
+            }
+            last = origin(&branch.1.origin, hash, key);
+        }
+    }
+    point.is_zero()
 }
 
 /// The birth of a branch among these.
@@ -175,11 +269,11 @@ fn is_own(branch: &(Id, BranchBirth), last: &Version, point: &Version) -> bool
     point.is_of(&branch.0) && (branch.1.initial <= point.timestamp && point.timestamp <= last.timestamp)
 }
 
-/// The version at a key, and the zero version where there is none.
-fn origin(versions: &RegionMap<Version>, key: &Key) -> Version
-    ensures { result ≡ or_zero (value_at versions.now.pieces (hash_of key.now versions.now.hashes) key.now) }
+/// The version at a key that has this hash, and the zero version where there is none.
+fn origin(versions: &RegionMap<Version>, hash: u8, key: &Key) -> Version
+    ensures { result ≡ or_zero (value_at versions.now.pieces hash key.now) }
 {
-    match versions.get(key) {
+    match versions.get_at(hash, key) {
         None => Version::zero(),
         Some(version) => *version,
     }

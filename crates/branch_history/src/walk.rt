@@ -182,6 +182,7 @@ impl Combine<bool, Version, Option<Version>> for Within {
 }
 
 /// The walk goes over a branch.
+#[derive(Clone, Copy)]
 pub struct Step {
     pub id: Id,
     pub initial: u64,

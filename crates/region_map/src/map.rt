@@ -62,6 +62,13 @@ impl<V> RegionMap<V> {
         let hash = hash_of(key, self.hashes);
         find(&self.pieces, hash, key)
     }
+
+    /// The value of a key that has this hash.
+    pub fn get_at(&self, hash: u8, key: &Key) -> Option<&V>
+        ensures { option_copied result ≡ value_at self.now.pieces hash key.now }
+    {
+        find(&self.pieces, hash, key)
+    }
 }
 
 /// The value of the first piece that has a key with this hash.
