@@ -16,13 +16,13 @@ use Rattle.region_map.proofs.Zips.{never_in}
 use Rattle.region_map.proofs.Order.{before_nil, before_trans, before_back, before_then, then_before, not_before}
 use Rattle.region_map.proofs.Rows.{all_front, all_snoc, all_weaker}
 
-in_band : (from to q : ℕ) → from ≤ q → q < to → (nat_le from q && nat_lt q to) ≡ true
+pub in_band : (from to q : ℕ) → from ≤ q → q < to → (nat_le from q && nat_lt q to) ≡ true
 in_band from to q h i = and_from _ _ (le-leb from q h) (lt-ltb q to i)
 
-past_band : (from to q : ℕ) → to ≤ q → (nat_le from q && nat_lt q to) ≡ false
+pub past_band : (from to q : ℕ) → to ≤ q → (nat_le from q && nat_lt q to) ≡ false
 past_band from to q h = and_right _ _ (le-ltb q to h)
 
-before_band : (from to q : ℕ) → q < from → (nat_le from q && nat_lt q to) ≡ false
+pub before_band : (from to q : ℕ) → q < from → (nat_le from q && nat_lt q to) ≡ false
 before_band from to q h = and_left _ _ (lt-leb from q h)
 
 module _ {V : Type 0} where
@@ -68,32 +68,32 @@ module _ {V : Type 0} where
 
   pub adds_none : (old : List (Band V)) (h : ℕ) (row : List (Range V)) → AreBands h old → row ≡ [] → Adds old h row old
   adds_none old h row a e = record {
-      are = bands_wider h (h + 1) old (omega arith) a;
-      at = λ q. elim (q == h) as (λ c. (q == h) ≡ c → row_at old q ≡ cond c row (row_at old q)) [
-        | true ↦ λ s. let same = eqb-true q h s in row_at_past old q (bands_within h q old a (omega arith)) ∙ sym e
-        | false ↦ λ s. refl
-      ] refl;
-    }
+    are = bands_wider h (h + 1) old (omega arith) a;
+    at = λ q. elim (q == h) as (λ c. (q == h) ≡ c → row_at old q ≡ cond c row (row_at old q)) [
+      | true ↦ λ s. let same = eqb-true q h s in row_at_past old q (bands_within h q old a (omega arith)) ∙ sym e
+      | false ↦ λ s. refl
+    ] refl;
+  }
 
   pub adds_new : (old : List (Band V)) (h : ℕ) (row : List (Range V)) (new : Band V) → AreBands h old → IsRow row → row ≢ []
       → new.hash_from ≡ h → new.hash_to ≡ h + 1 → new.row ≡ row → AllByRecursion (λ x. Succeeds x new) old → Adds old h row (old ++ new ∷ [])
   adds_new old h row new a r f e1 e2 e3 s = record {
-      are = bands_snoc (h + 1) old new (bands_wider h (h + 1) old (omega arith) a)
-              (record { holds = omega arith; within = omega arith; filled = λ e. f (sym e3 ∙ e); row = subst (λ x. IsRow x) (sym e3) r }) s;
-      at = λ q. elim (q == h) as (λ c. (q == h) ≡ c → row_at (old ++ new ∷ []) q ≡ cond c row (row_at old q)) [
-        | true ↦ λ t. let same = eqb-true q h t in
-            row_at_in old new q (bands_within h q old a (omega arith)) (in_band new.hash_from new.hash_to q (omega arith) (omega arith)) ∙ e3
-        | false ↦ λ t. let other = eqb-false q h t in row_at_out old new q (outside q other)
-      ] refl;
-    }
+    are = bands_snoc (h + 1) old new (bands_wider h (h + 1) old (omega arith) a)
+        (record { holds = omega arith; within = omega arith; filled = λ e. f (sym e3 ∙ e); row = subst (λ x. IsRow x) (sym e3) r }) s;
+    at = λ q. elim (q == h) as (λ c. (q == h) ≡ c → row_at (old ++ new ∷ []) q ≡ cond c row (row_at old q)) [
+      | true ↦ λ t. let same = eqb-true q h t in
+          row_at_in old new q (bands_within h q old a (omega arith)) (in_band new.hash_from new.hash_to q (omega arith) (omega arith)) ∙ e3
+      | false ↦ λ t. let other = eqb-false q h t in row_at_out old new q (outside q other)
+    ] refl;
+  }
     where
       outside : (q : ℕ) → (q ≡ h → ⊥) → (nat_le new.hash_from q && nat_lt q new.hash_to) ≡ false
       outside q other = elim (cases_eq q h) [
         | inl same ↦ absurd (other same)
         | inr apart ↦ elim (nat_le new.hash_from q) as (λ c. nat_le new.hash_from q ≡ c → (c && nat_lt q new.hash_to) ≡ false) [
-            | true ↦ λ t. let le = leb-true new.hash_from q t in le-ltb q new.hash_to (omega arith)
-            | false ↦ λ t. refl
-          ] refl
+          | true ↦ λ t. let le = leb-true new.hash_from q t in le-ltb q new.hash_to (omega arith)
+          | false ↦ λ t. refl
+        ] refl
       ]
 
   pub adds_longer : (init : List (Band V)) (last new : Band V) (h : ℕ) (row : List (Range V)) → AreBands h (init ++ last ∷ []) → last.hash_to ≡ h → last.row ≡ row
@@ -104,9 +104,9 @@ module _ {V : Type 0} where
       let begins = is.holds in
       record {
         are = bands_snoc (h + 1) init new (bands_wider h (h + 1) init (omega arith) p.0)
-                (record { holds = omega arith; within = omega arith; filled = λ x. is.filled (sym e3 ∙ x); row = subst (λ x. IsRow x) (sym e3) is.row })
-                (all_weaker (λ x. Succeeds x last) (λ x. Succeeds x new) init
-                  (λ x s. record { apart = (let w = s.apart in omega arith); longest = λ u v. s.longest (u ∙ e1) (v ∙ e3) }) p.2);
+            (record { holds = omega arith; within = omega arith; filled = λ x. is.filled (sym e3 ∙ x); row = subst (λ x. IsRow x) (sym e3) is.row })
+            (all_weaker (λ x. Succeeds x last) (λ x. Succeeds x new) init
+            (λ x s. record { apart = (let w = s.apart in omega arith); longest = λ u v. s.longest (u ∙ e1) (v ∙ e3) }) p.2);
         at = λ q. elim (q == h) as (λ c. (q == h) ≡ c → row_at (init ++ new ∷ []) q ≡ cond c row (row_at (init ++ last ∷ []) q)) [
           | true ↦ λ t. let same = eqb-true q h t in
               row_at_in init new q (bands_within h q init p.0 (omega arith)) (in_band new.hash_from new.hash_to q (omega arith) (omega arith)) ∙ e3 ∙ r
@@ -125,22 +125,22 @@ module _ {V : Type 0} where
       let holds = is.holds in
       let within = is.within in
       adds_new (init ++ last ∷ []) h row new a r f e1 e2 e3
-        (all_snoc (λ x. Succeeds x new) init last
-          (all_weaker (λ x. Succeeds x last) (λ x. Succeeds x new) init (λ x s. let w = s.apart in record { apart = omega arith; longest = λ u v. absurd (omega arith) }) p.2)
-          (record { apart = omega arith; longest = λ u v. ne (u ∙ e1) (v ∙ e3) }))
+      (all_snoc (λ x. Succeeds x new) init last
+      (all_weaker (λ x. Succeeds x last) (λ x. Succeeds x new) init (λ x s. let w = s.apart in record { apart = omega arith; longest = λ u v. absurd (omega arith) }) p.2)
+      (record { apart = omega arith; longest = λ u v. ne (u ∙ e1) (v ∙ e3) }))
 
   pub adds_longer_at : (old init new : List (Band V)) (last next : Band V) (h : ℕ) (row : List (Range V)) → old ≡ init ++ last ∷ [] → new ≡ init ++ next ∷ []
       → AreBands h old → last.hash_to ≡ h → last.row ≡ row → next.hash_from ≡ last.hash_from → next.hash_to ≡ h + 1 → next.row ≡ last.row → Adds old h row new
   adds_longer_at old init new last next h row eo en a e r e1 e2 e3 =
       subst (λ o. Adds o h row new) (sym eo) (subst (λ n. Adds (init ++ last ∷ []) h row n) (sym en)
-        (adds_longer init last next h row (subst (λ o. AreBands h o) eo a) e r e1 e2 e3))
+      (adds_longer init last next h row (subst (λ o. AreBands h o) eo a) e r e1 e2 e3))
 
   pub adds_apart_at : (old init mid new : List (Band V)) (last next : Band V) (h : ℕ) (row : List (Range V)) → old ≡ init ++ last ∷ [] → mid ≡ init ++ last ∷ [] → new ≡ mid ++ next ∷ []
       → AreBands h old → IsRow row → row ≢ [] → (last.hash_to ≡ h → last.row ≡ row → ⊥) → next.hash_from ≡ h → next.hash_to ≡ h + 1 → next.row ≡ row → Adds old h row new
   adds_apart_at old init mid new last next h row eo em en a r f ne e1 e2 e3 =
       let e : new ≡ (init ++ last ∷ []) ++ next ∷ [] = en ∙ ap (λ x. x ++ next ∷ []) em in
       subst (λ o. Adds o h row new) (sym eo) (subst (λ n. Adds (init ++ last ∷ []) h row n) (sym e)
-        (adds_apart init last next h row (subst (λ o. AreBands h o) eo a) r f ne e1 e2 e3))
+      (adds_apart init last next h row (subst (λ o. AreBands h o) eo a) r f ne e1 e2 e3))
 
   -- ---- pieces
 
@@ -172,7 +172,7 @@ module _ {V : Type 0} where
   ranges_at-pieces_of n (b ∷ bs) h a =
       ranges_at-append (map (piece b.hash_from b.hash_to) b.row) (pieces_of bs) h
       ∙ elim (nat_le b.hash_from h && nat_lt h b.hash_to) as (λ c. (nat_le b.hash_from h && nat_lt h b.hash_to) ≡ c
-          → ranges_at (map (piece b.hash_from b.hash_to) b.row) h ++ ranges_at (pieces_of bs) h ≡ cond c b.row (row_at bs h)) [
+      → ranges_at (map (piece b.hash_from b.hash_to) b.row) h ++ ranges_at (pieces_of bs) h ≡ cond c b.row (row_at bs h)) [
         | true ↦ λ e.
             let under : h < b.hash_to = ltb-true h b.hash_to (and_parts (nat_le b.hash_from h) (nat_lt h b.hash_to) e).1 in
             ap (λ r. r ++ ranges_at (pieces_of bs) h) (ranges_at_in b.hash_from b.hash_to h b.row e)
@@ -208,7 +208,7 @@ module _ {V : Type 0} where
 
   -- ---- stretches
 
-  none_before : (g : Range V) (gs : List (Range V)) (k : List ℕ) → AllByRecursion (Follows g) gs → is_open g.from g.to ≡ true → before k (low g.from) ≡ true → row_value gs k ≡ None
+  pub none_before : (g : Range V) (gs : List (Range V)) (k : List ℕ) → AllByRecursion (Follows g) gs → is_open g.from g.to ≡ true → before k (low g.from) ≡ true → row_value gs k ≡ None
   none_before g [] k f o h = refl
   none_before g (x ∷ gs) k f o h =
       ap (λ c. cond (not c && below k x.to) (Some x.value) (row_value gs k)) (far g.to (f.0).apart o) ∙ none_before g gs k f.1 o h
@@ -242,11 +242,11 @@ module _ {V : Type 0} where
   pub one_canonical : (n from to : ℕ) (g : Range V) (ps : List (Region × V)) → ps ≡ piece from to g ∷ [] → 0 < n → from < to → to ≤ n → IsRange g
       → IsCanonical {V = V} (record { hashes = n; pieces = ps })
   one_canonical n from to g ps e some h w r = record {
-      bands = record { hash_from = from; hash_to = to; row = g ∷ [] } ∷ [];
-      are = (record { holds = h; within = w; filled = λ x. cc; row = (r, tt, tt) }, tt, tt);
-      pieces = e;
-      some_hash = some;
-    }
+    bands = record { hash_from = from; hash_to = to; row = g ∷ [] } ∷ [];
+    are = (record { holds = h; within = w; filled = λ x. cc; row = (r, tt, tt) }, tt, tt);
+    pieces = e;
+    some_hash = some;
+  }
 
 -- a region without any key below a hash
 pub nothing_in : (r : Region) (n to h : ℕ) (k : List ℕ) → to ≡ cond (nat_lt r.hash_to n) r.hash_to n → (nat_lt r.hash_from to && is_open r.from r.to) ≡ false → (nat_lt h n && in_region r h k) ≡ false

@@ -142,7 +142,7 @@ module _ {V : Type 0} where
       let far = λ (x : Range V) (f : Follows x last). follows_far x last g f p.1 q.1 in
       record {
         row = row_snoc (old ++ last ∷ []) g r is
-                (all_snoc (λ x. Follows x g) old last (all_weaker (λ x. Follows x last) (λ x. Follows x g) old far p.2) (record { apart = q.1; longest = ne }));
+            (all_snoc (λ x. Follows x g) old last (all_weaker (λ x. Follows x last) (λ x. Follows x g) old far p.2) (record { apart = q.1; longest = ne }));
         at = λ k. put_at (old ++ last ∷ []) g k h;
         ends = λ bound e. all_snoc (λ x. ends_by x.to bound ≡ true) (old ++ last ∷ []) g (precede_then (old ++ last ∷ []) g.from g.to bound h is.holds e) e;
       }
@@ -169,7 +169,7 @@ module _ {V : Type 0} where
       let opened : is_open last.from g.to ≡ true = open_then last.from last.to g.from g.to p.1.holds touch q.1 is.holds in
       record {
         row = row_snoc old longer p.0 (record { holds = opened; begins = p.1.begins; ends = is.ends })
-                (all_weaker (λ x. Follows x last) (λ x. Follows x longer) old (λ x f. record { apart = f.apart; longest = f.longest }) p.2);
+            (all_weaker (λ x. Follows x last) (λ x. Follows x longer) old (λ x f. record { apart = f.apart; longest = f.longest }) p.2);
         at = λ k. longer_at k p.1.holds q.0 q.1;
         ends = λ bound e. all_snoc (λ x. ends_by x.to bound ≡ true) old longer (precede_then old g.from g.to bound q.0 is.holds e) e;
       }
@@ -179,7 +179,7 @@ module _ {V : Type 0} where
       longer_at k holds front by =
           let t : cond (in_range g.from g.to k) (in_range last.from g.to k ≡ true) (in_range last.from g.to k ≡ in_range last.from last.to k) = longer_in last.from last.to g.from g.to k touch by is.holds holds in
           elim (in_range g.from g.to k) as (λ b. in_range g.from g.to k ≡ b → cond b (in_range last.from g.to k ≡ true) (in_range last.from g.to k ≡ in_range last.from last.to k)
-              → row_value (old ++ record last { to = g.to } ∷ []) k ≡ cond b (Some g.value) (row_value (old ++ last ∷ []) k)) [
+          → row_value (old ++ record last { to = g.to } ∷ []) k ≡ cond b (Some g.value) (row_value (old ++ last ∷ []) k)) [
             | true ↦ λ e u.
                 row_value-append old (record last { to = g.to } ∷ []) k
                 ∙ ap (λ x. else_value x (row_value (record last { to = g.to } ∷ []) k)) (none_behind old g.from k front (in_range_parts g.from g.to k e).0)
@@ -196,13 +196,13 @@ module _ {V : Type 0} where
   puts_longer_at old init new last g longer eo en el r is h touch same =
       let e : new ≡ init ++ record last { to = g.to } ∷ [] = en ∙ ap (λ x. init ++ x ∷ []) el in
       subst (λ o. Puts o g new) (sym eo)
-        (subst (λ n. Puts (init ++ last ∷ []) g n) (sym e)
-          (puts_longer init last g (subst (λ o. IsRow o) eo r) is (subst (λ o. Precede o g.from) eo h) touch same))
+      (subst (λ n. Puts (init ++ last ∷ []) g n) (sym e)
+      (puts_longer init last g (subst (λ o. IsRow o) eo r) is (subst (λ o. Precede o g.from) eo h) touch same))
 
   pub puts_apart_at : (old init mid new : List (Range V)) (last g : Range V) → old ≡ init ++ last ∷ [] → mid ≡ init ++ last ∷ [] → new ≡ mid ++ g ∷ []
       → IsRow old → IsRange g → Precede old g.from → (last.to ≡ g.from → last.value ≢ g.value) → Puts old g new
   puts_apart_at old init mid new last g eo em en r is h ne =
       let e : new ≡ (init ++ last ∷ []) ++ g ∷ [] = en ∙ ap (λ x. x ++ g ∷ []) em in
       subst (λ o. Puts o g new) (sym eo)
-        (subst (λ n. Puts (init ++ last ∷ []) g n) (sym e)
-          (puts_apart init last g (subst (λ o. IsRow o) eo r) is (subst (λ o. Precede o g.from) eo h) ne))
+      (subst (λ n. Puts (init ++ last ∷ []) g n) (sym e)
+      (puts_apart init last g (subst (λ o. IsRow o) eo r) is (subst (λ o. Precede o g.from) eo h) ne))

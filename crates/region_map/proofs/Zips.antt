@@ -33,22 +33,22 @@ module _ {V : Type 0} where
   pub emits_some : (old new : List (Range V)) (from to next : Option (List ℕ)) (value : Option V) (v : V) → value ≡ Some v
       → Puts old (record { from = from; to = to; value = v }) new → is_open from to ≡ true → next ≡ to → is_bound to ≡ true → Emits old from to value new next
   emits_some old new from to next value v e p o n b = record {
-      row = p.row;
-      at = λ k. p.at k ∙ ap (λ x. cond (in_range from to k) x (row_value old k)) (sym e);
-      cursor = n ∙ ap (λ c. cond c to from) (sym o);
-      ends = λ bound same. subst (λ x. Precede new x) (sym n) (p.ends to (ends_itself to bound same));
-      bound = ap is_bound n ∙ b;
-    }
+    row = p.row;
+    at = λ k. p.at k ∙ ap (λ x. cond (in_range from to k) x (row_value old k)) (sym e);
+    cursor = n ∙ ap (λ c. cond c to from) (sym o);
+    ends = λ bound same. subst (λ x. Precede new x) (sym n) (p.ends to (ends_itself to bound same));
+    bound = ap is_bound n ∙ b;
+  }
 
   pub emits_none : (old : List (Range V)) (from to next : Option (List ℕ)) (value : Option V) → value ≡ None
       → IsRow old → Precede old from → is_open from to ≡ true → next ≡ to → is_bound to ≡ true → Emits old from to value old next
   emits_none old from to next value e r h o n b = record {
-      row = r;
-      at = λ k. nothing k;
-      cursor = n ∙ ap (λ c. cond c to from) (sym o);
-      ends = λ bound same. subst (λ x. Precede old x) (sym n) (precede_then old from to to h o (ends_itself to bound same));
-      bound = ap is_bound n ∙ b;
-    }
+    row = r;
+    at = λ k. nothing k;
+    cursor = n ∙ ap (λ c. cond c to from) (sym o);
+    ends = λ bound same. subst (λ x. Precede old x) (sym n) (precede_then old from to to h o (ends_itself to bound same));
+    bound = ap is_bound n ∙ b;
+  }
     where
       nothing : (k : List ℕ) → row_value old k ≡ cond (in_range from to k) value (row_value old k)
       nothing k =
@@ -60,12 +60,12 @@ module _ {V : Type 0} where
   pub emits_empty : (old : List (Range V)) (from to : Option (List ℕ)) (value : Option V)
       → IsRow old → Precede old from → is_bound from ≡ true → is_open from to ≡ false → Emits old from to value old from
   emits_empty old from to value r h b o = record {
-      row = r;
-      at = λ k. sym (ap (λ c. cond c value (row_value old k)) (never_in from to k o));
-      cursor = sym (ap (λ c. cond c to from) o);
-      ends = λ bound same. h;
-      bound = b;
-    }
+    row = r;
+    at = λ k. sym (ap (λ c. cond c value (row_value old k)) (never_in from to k o));
+    cursor = sym (ap (λ c. cond c to from) o);
+    ends = λ bound same. h;
+    bound = b;
+  }
 
   -- ---- the stretch that stands first
 
@@ -171,13 +171,13 @@ cursor_below from end next e k n s h i =
 module _ {V W X : Type 0} (f : Option V → Option W → Option X) (a : List (Stretch V)) (b : List (Stretch W)) where
   pub zip_begin : (row : List (Range X)) (from : Option (List ℕ)) → row ≡ [] → from ≡ None → IsZipping f a b 0 0 row from
   zip_begin row from e n = subst (λ r. IsZipping f a b 0 0 r from) (sym e) (subst (λ c. IsZipping f a b 0 0 [] c) (sym n) (record {
-      row = tt;
-      at = λ k h. absurd (both_ways _ (before_nil k) h);
-      first = λ k h. refl;
-      second = λ k h. refl;
-      ends = tt;
-      bound = refl;
-    }))
+    row = tt;
+    at = λ k h. absurd (both_ways _ (before_nil k) h);
+    first = λ k h. refl;
+    second = λ k h. refl;
+    ends = tt;
+    bound = refl;
+  }))
 
   -- in the part that comes out the value is that of the two that stand first
   part_at : (i j : ℕ) (row : List (Range X)) (from end : Option (List ℕ)) (value : Option X) (k : List ℕ) → IsZipping f a b i j row from
@@ -194,7 +194,7 @@ module _ {V W X : Type 0} (f : Option V → Option W → Option X) (a : List (St
       → Emits row from end value new next → (before k (low from) ≡ false → below k end ≡ true) → row_value new k ≡ f (stretch_value a k) (stretch_value b k)
   whole_at i j row new from end next value k z e v m under =
       m.at k ∙ elim (before k (low from)) as (λ c. before k (low from) ≡ c → (c ≡ false → below k end ≡ true)
-          → cond (not c && below k end) value (row_value row k) ≡ f (stretch_value a k) (stretch_value b k)) [
+      → cond (not c && below k end) value (row_value row k) ≡ f (stretch_value a k) (stretch_value b k)) [
         | true ↦ λ g u. z.at k g
         | false ↦ λ g u. ap (λ d. cond d value (row_value row k)) (u refl) ∙ part_at i j row from end value k z e v g (u refl)
       ] refl under
@@ -203,9 +203,9 @@ module _ {V W X : Type 0} (f : Option V → Option W → Option X) (a : List (St
       → end ≡ sooner_of (head_end (drop i a)) (head_end (drop j b)) → value ≡ f (head_value (drop i a)) (head_value (drop j b))
       → Emits row from end value new next → end ≡ None → IsZipped f a b new
   zip_end i j row new from end next value z e v m n = record {
-      row = m.row;
-      at = λ k. whole_at i j row new from end next value k z e v m (λ _. ap (below k) n);
-    }
+    row = m.row;
+    at = λ k. whole_at i j row new from end next value k z e v m (λ _. ap (below k) n);
+  }
 
   pub zip_step : (i j p q : ℕ) (row new : List (Range X)) (from end next : Option (List ℕ)) (value : Option X) (bound : List ℕ) → IsZipping f a b i j row from
       → end ≡ sooner_of (head_end (drop i a)) (head_end (drop j b)) → value ≡ f (head_value (drop i a)) (head_value (drop j b))
@@ -219,16 +219,16 @@ module _ {V W X : Type 0} (f : Option V → Option W → Option X) (a : List (St
         at = λ k h. whole_at i j row new from end next value k z e v m (cursor_below from end next bound k m.cursor n h);
         first = λ k h. let c = cursor_past from end next bound k m.cursor n h in
             z.first k c.0 ∙ subst (λ x. stretch_value (drop i a) k ≡ stretch_value (drop x a) k) (sym ep)
-              (elim (sooner (head_end (drop j b)) (head_end (drop i a))) as (λ d. sooner (head_end (drop j b)) (head_end (drop i a)) ≡ d → stretch_value (drop i a) k ≡ stretch_value (drop (cond d i (i + 1)) a) k) [
-                | true ↦ λ s. refl
-                | false ↦ λ s. next_at a i k bound (left_is _ _ bound here s) c.1
-              ] refl);
+            (elim (sooner (head_end (drop j b)) (head_end (drop i a))) as (λ d. sooner (head_end (drop j b)) (head_end (drop i a)) ≡ d → stretch_value (drop i a) k ≡ stretch_value (drop (cond d i (i + 1)) a) k) [
+              | true ↦ λ s. refl
+              | false ↦ λ s. next_at a i k bound (left_is _ _ bound here s) c.1
+            ] refl);
         second = λ k h. let c = cursor_past from end next bound k m.cursor n h in
             z.second k c.0 ∙ subst (λ x. stretch_value (drop j b) k ≡ stretch_value (drop x b) k) (sym eq)
-              (elim (sooner (head_end (drop i a)) (head_end (drop j b))) as (λ d. sooner (head_end (drop i a)) (head_end (drop j b)) ≡ d → stretch_value (drop j b) k ≡ stretch_value (drop (cond d j (j + 1)) b) k) [
-                | true ↦ λ s. refl
-                | false ↦ λ s. next_at b j k bound (right_is _ _ bound here s) c.1
-              ] refl);
+            (elim (sooner (head_end (drop i a)) (head_end (drop j b))) as (λ d. sooner (head_end (drop i a)) (head_end (drop j b)) ≡ d → stretch_value (drop j b) k ≡ stretch_value (drop (cond d j (j + 1)) b) k) [
+              | true ↦ λ s. refl
+              | false ↦ λ s. next_at b j k bound (right_is _ _ bound here s) c.1
+            ] refl);
         ends = m.ends bound n;
         bound = m.bound;
       }

@@ -85,7 +85,10 @@ pub fn add_row<V: MapValue>(
 }
 
 /// The pieces of bands, in order.
-pub fn flattened<V: Drop>(alloc: Global, bands: Vec<RowBand<V>>) -> Result<Vec<(Region, V)>, OutOfMemory>
+pub fn flattened<V: Drop>(
+    alloc: Global,
+    bands: Vec<RowBand<V>>,
+) -> Result<Vec<(Region, V)>, OutOfMemory>
     ensures { IfOk result (λ pieces. pieces.items ≡ pieces_of (map band_of bands.items)) }
 {
     let mut pieces = Vec::new(alloc);

@@ -22,7 +22,7 @@ use std::marker::Model;
 /// It is kept as its pieces, the one list of that function: at each hash the byte lists are cut into the
 /// longest ranges with one value, and neighbouring hashes with the same ranges and values form one interval,
 /// as long as can be.
-#[derive(Drop)]
+#[derive(Debug, Drop)]
 pub struct RegionMap<V> {
     hashes: u8,
     pieces: Vec<(Region, V)>,
@@ -97,6 +97,22 @@ fn has_any(region: &Region, hash_to: u8) -> bool
     region.hash_from < hash_to && is_range(&region.from, &region.to)
 }
 
+/// The same pieces again.
+fn copied<V: MapValue>(
+    alloc: Global,
+    pieces: &[(Region, V)],
+) -> Result<Vec<(Region, V)>, OutOfMemory>
+    ensures { IfOk result (λ copy. copy.items ≡ pieces.now) }
+{
+    let mut copy = Vec::new(alloc);
+    for piece in pieces {
+        let region = piece.0.copy(alloc)?;
+        let value = piece.1.copy(alloc)?;
+        copy.push((region, value))?;
+    }
+    Ok(copy)
+}
+
 impl<V: MapValue> RegionMap<V> {
     /// The map that has this value on the domain, and none elsewhere.
     pub fn constant(
@@ -132,6 +148,17 @@ impl<V: MapValue> RegionMap<V> {
             value,
         ))?;
         Ok(RegionMap { hashes, pieces })
+    }
+
+    /// The same map again.
+    pub fn copy(&self, alloc: Global) -> Result<RegionMap<V>, OutOfMemory>
+        ensures { IfOk result (λ m. m ≡ self.now) }
+    {
+        let pieces = copied(alloc, &self.pieces)?;
+        Ok(RegionMap {
+            hashes: self.hashes,
+            pieces,
+        })
     }
 
     /// The map that has at each pair what the two maps together give there.
@@ -170,7 +197,12 @@ impl<V: MapValue> Combine<V, bool, V> for Masked {
 
     ghost combined = { λ _ a b. masked a b };
 
-    fn combine(&self, alloc: Global, a: Option<&V>, b: Option<&bool>) -> Result<Option<V>, OutOfMemory> {
+    fn combine(
+        &self,
+        alloc: Global,
+        a: Option<&V>,
+        b: Option<&bool>,
+    ) -> Result<Option<V>, OutOfMemory> {
         match b {
             None => Ok(None),
             Some(_) => match a {
@@ -189,7 +221,12 @@ impl<V: MapValue> Combine<V, V, V> for Overlaid {
 
     ghost combined = { λ _ a b. overlaid a b };
 
-    fn combine(&self, alloc: Global, a: Option<&V>, b: Option<&V>) -> Result<Option<V>, OutOfMemory> {
+    fn combine(
+        &self,
+        alloc: Global,
+        a: Option<&V>,
+        b: Option<&V>,
+    ) -> Result<Option<V>, OutOfMemory> {
         match a {
             None => Ok(None),
             Some(a) => match b {
@@ -208,7 +245,12 @@ impl<V: MapValue, W: MapValue> Combine<V, W, (V, W)> for Paired {
 
     ghost combined = { λ _ a b. paired a b };
 
-    fn combine(&self, alloc: Global, a: Option<&V>, b: Option<&W>) -> Result<Option<(V, W)>, OutOfMemory> {
+    fn combine(
+        &self,
+        alloc: Global,
+        a: Option<&V>,
+        b: Option<&W>,
+    ) -> Result<Option<(V, W)>, OutOfMemory> {
         match a {
             None => Ok(None),
             Some(a) => match b {
@@ -262,4 +304,15 @@ impl<V: MapValue> RegionMap<V> {
         let new = self.zip(alloc, other, &Paired)?;
         Ok(new)
     }
+}
+
+/// Two maps with as many hashes that have the same value at every pair are the same: they have the same
+/// pieces.
+pub fn same_maps<V>(a: &RegionMap<V>, b: &RegionMap<V>)
+    requires hashes { a.now.hashes ≡ b.now.hashes }
+    requires values { (h : ℕ) (k : List ℕ) → value_at a.now.pieces h k ≡ value_at b.now.pieces h k }
+    ensures { a.now ≡ b.now }
+{
+    let _first = a.hashes();
+    let _second = b.hashes();
 }

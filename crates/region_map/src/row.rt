@@ -4,10 +4,10 @@ ghost use Rattle.region_map.specs.Regions.{is_bound};
 ghost use Rattle.region_map.specs.Maps.{IsRange, IsRow};
 ghost use Rattle.region_map.specs.Rows.{Precede, Puts, Emits, IsZipped};
 
+use crate::Key;
 use crate::bound::{copy_bound, is_range, is_same_bound};
 use crate::stretch::{Stretch, end_of, is_sooner, sooner_of, value_of};
 use crate::value::{Combine, MapValue};
-use crate::{Key};
 use memory::OutOfMemory;
 use std::alloc::Global;
 use std::mem;
@@ -50,7 +50,11 @@ fn put<V: MapValue>(row: &mut Vec<Range<V>>, range: Range<V>) -> Result<(), OutO
         None => row.push(range)?,
         Some(last) => {
             if joins(&last, &range) {
-                let Range { from: _, to, value: _ } = range;
+                let Range {
+                    from: _,
+                    to,
+                    value: _,
+                } = range;
                 row.push(longer(last, to))?;
             } else {
                 row.push(last)?;

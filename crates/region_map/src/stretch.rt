@@ -42,7 +42,11 @@ fn has_hash(region: &Region, hash: u8) -> bool
 }
 
 /// Adds the stretch without a value up to the begin of a range.
-fn add_gap<V: MapValue>(row: &mut Vec<Stretch<V>>, alloc: Global, from: &Option<Key>) -> Result<(), OutOfMemory>
+fn add_gap<V: MapValue>(
+    row: &mut Vec<Stretch<V>>,
+    alloc: Global,
+    from: &Option<Key>,
+) -> Result<(), OutOfMemory>
     ensures { OnOk result (row.new.items ≡ row.old.items ++ gap from.now) }
 {
     match from {
@@ -109,7 +113,11 @@ pub fn is_sooner(a: Option<&Key>, b: Option<&Key>) -> bool
 }
 
 /// The sooner of two ends.
-pub fn sooner_of(alloc: Global, a: Option<&Key>, b: Option<&Key>) -> Result<Option<Key>, OutOfMemory>
+pub fn sooner_of(
+    alloc: Global,
+    a: Option<&Key>,
+    b: Option<&Key>,
+) -> Result<Option<Key>, OutOfMemory>
     ensures { IfOk result (λ end. end ≡ sooner_of (option_copied a.entry) (option_copied b.entry)) }
 {
     let sooner = if is_sooner(b, a) { b } else { a };

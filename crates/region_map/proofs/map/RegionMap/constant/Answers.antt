@@ -16,9 +16,9 @@ invariant_of-result-2 g c =
     let both = and_parts _ _ (sym c.has_any.ensures ∙ c.if-not-has_any.false) in
     let some : 0 < c.args.hashes = c.requires in
     one_canonical c.args.hashes c.args.domain.hash_from c.lesser-hash_to.result (record { from = c.args.domain.from; to = c.args.domain.to; value = c.args.value }) c.push.new.self.items
-        (push_first _ _ _ c.in_ok-push.ensures.items c.new-pieces.ensures.items) some (ltb-true _ _ both.0)
-        (lesser_le c.args.domain.hash_to c.args.hashes c.lesser-hash_to.result c.lesser-hash_to.ensures)
-        (record { holds = both.1; begins = c.is_known.ensures; ends = c.is_known-2.ensures })
+    (push_first _ _ _ c.in_ok-push.ensures.items c.new-pieces.ensures.items) some (ltb-true _ _ both.0)
+    (lesser_le c.args.domain.hash_to c.args.hashes c.lesser-hash_to.result c.lesser-hash_to.ensures)
+    (record { holds = both.1; begins = c.is_known.ensures; ends = c.is_known-2.ensures })
 
 pub returns-clause-at : goal.returns-clause-at
 returns-clause-at g c h k =

@@ -7,5 +7,5 @@ abbrev pub invariant-loop-hash : goal.invariant-loop-hash
 invariant-loop-hash g l = record {
   are : AreBands l.hash (map band_of l.bands.items);
   at : (h : ℕ) (k : List ℕ) → h < l.hash → row_value (row_at (map band_of l.bands.items) h) k
-      ≡ g.F.Combine.combined l.with (value_at l.self.pieces h k) (value_at l.other.pieces h k)
+      ≡ g.F.Combine.combined l.with (value_at l.self.pieces h k) (value_at l.other.pieces h k);
 }
