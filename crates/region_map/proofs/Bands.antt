@@ -1,7 +1,7 @@
 -- Bands: what adding the row of a hash gives, and how a map's pieces come from them.
-use Rattle.std.proofs.Common.{◌≡◌, ◌≢◌, ℕ, zero, suc, ◌+◌, ◌<◌, ◌≤◌, ◌==◌, Bool, true, false, cond, ◌&&◌, not, nat_lt, nat_le, List, [], ◌∷◌, ◌++◌, map, length, Option, Some, None, inl, inr, refl, sym, ap, ap₂, ◌∙◌, subst, arith}
-use Rattle.std.specs.List.{AllByRecursion, flat_map}
-use Rattle.std.proofs.lemmas.Bool.{and_parts, and_from, and_left, and_right, eqb-true, eqb-false, ltb-true, ltb-false, leb-true, leb-false, lt-ltb, le-ltb, le-leb, lt-leb, cases_eq, both_ways, not-true, cond_both}
+use Rattle.std.proofs.Common.{◌≡◌, ◌≢◌, ℕ, ◌+◌, ◌<◌, ◌≤◌, ◌==◌, Bool, true, false, cond, ◌&&◌, not, nat_lt, nat_le, List, [], ◌∷◌, ◌++◌, map, Option, Some, None, inl, inr, refl, sym, ap, ap₂, ◌∙◌, subst, arith}
+use Rattle.std.specs.List.{AllByRecursion}
+use Rattle.std.proofs.lemmas.Bool.{and_parts, and_from, and_left, and_right, eqb-true, eqb-false, ltb-true, leb-true, lt-ltb, le-ltb, le-leb, lt-leb, cases_eq, not-true, cond_both}
 use Rattle.std.proofs.lemmas.List.{append-nil}
 use Rattle.std.proofs.lemmas.Bool.Decides.{nat_tests}
 use Rattle.region_map.specs.declared.region.Region.{Region}
@@ -13,7 +13,7 @@ use Rattle.region_map.specs.Rows.{at_hash, range_of, ranges_at, gap, stretches_o
 use Rattle.region_map.specs.Rows.{IsZipped}
 use Rattle.region_map.specs.Bands.{row_at, Adds}
 use Rattle.region_map.proofs.Zips.{never_in}
-use Rattle.region_map.proofs.Order.{before_nil, before_trans, before_back, before_then, then_before, not_before}
+use Rattle.region_map.proofs.Order.{before_nil, before_trans, before_then}
 use Rattle.region_map.proofs.Rows.{all_front, all_snoc, all_weaker}
 
 pub in_band : (from to q : ℕ) → from ≤ q → q < to → (nat_le from q && nat_lt q to) ≡ true

@@ -1,12 +1,12 @@
 -- Rows: what putting a range behind the others gives.
-use Rattle.std.proofs.Common.{◌≡◌, ◌≢◌, ℕ, Bool, true, false, cond, ◌&&◌, not, List, [], ◌∷◌, ◌++◌, nat_lt, length, Option, Some, None, refl, sym, ap, ◌∙◌, subst, IsTrue}
+use Rattle.std.proofs.Common.{◌≡◌, ◌≢◌, ℕ, Bool, true, false, cond, ◌&&◌, not, List, [], ◌∷◌, ◌++◌, Option, Some, None, refl, sym, ap, ◌∙◌, subst}
 use Rattle.std.specs.List.{AllByRecursion}
-use Rattle.std.proofs.lemmas.Bool.{and_parts, and_from, and_left, and_right, not-true, not_from_true, not_from_false, cond_both, both_ways}
+use Rattle.std.proofs.lemmas.Bool.{and_parts, and_from, and_right, not-true, not_from_false, both_ways}
 use Rattle.region_map.specs.declared.row.Range.{Range}
-use Rattle.region_map.specs.Regions.{before, low, below, in_range, is_bound, is_open, ends_by}
+use Rattle.region_map.specs.Regions.{before, low, below, in_range, is_open, ends_by}
 use Rattle.region_map.specs.Maps.{row_value, IsRow, IsRange, Follows}
 use Rattle.region_map.specs.Rows.{Precede, Puts}
-use Rattle.region_map.proofs.Order.{before_nil, before_some, before_self, before_trans, before_back, before_then, then_before, before_neither, not_before}
+use Rattle.region_map.proofs.Order.{before_self, before_trans, before_back, before_then, then_before, not_before}
 
 -- ---- bounds
 

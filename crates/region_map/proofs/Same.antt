@@ -1,14 +1,14 @@
 -- Region maps that give every pair the same value are the same.
-use Rattle.std.proofs.Common.{◌≡◌, ◌≢◌, ℕ, ◌+◌, ◌<◌, ◌≤◌, Bool, true, false, cond, ◌&&◌, not, nat_lt, nat_le, List, [], ◌∷◌, ◌++◌, length, Option, Some, None, inl, inr, refl, sym, ap, ap₂, ◌∙◌, subst, arith}
+use Rattle.std.proofs.Common.{◌≡◌, ◌≢◌, ℕ, ◌<◌, ◌≤◌, Bool, true, false, cond, ◌&&◌, not, nat_lt, List, [], ◌∷◌, length, Option, Some, None, inl, inr, refl, sym, ap, ap₂, ◌∙◌, subst, arith}
 use Rattle.std.specs.List.{AllByRecursion}
-use Rattle.std.proofs.lemmas.Bool.{and_parts, and_from, and_left, and_right, not-true, not_from_false, both_ways, cases_order, cases_Bool, cases_lt}
+use Rattle.std.proofs.lemmas.Bool.{and_right, not-true, both_ways, cases_order, cases_Bool, cases_lt}
 use Rattle.region_map.specs.declared.row.Range.{Range}
-use Rattle.region_map.specs.Regions.{before, low, below, in_range, is_open, is_bound, ends_by}
-use Rattle.region_map.specs.Maps.{Pieced, Band, IsBand, Succeeds, AreBands, IsRow, IsRange, Follows, IsCanonical, value_at, row_value, pieces_of}
+use Rattle.region_map.specs.Regions.{before, low, below, in_range, is_bound, ends_by}
+use Rattle.region_map.specs.Maps.{Pieced, Band, Succeeds, AreBands, IsRow, IsRange, Follows, IsCanonical, value_at, row_value, pieces_of}
 use Rattle.region_map.specs.Rows.{sooner}
 use Rattle.region_map.specs.Bands.{row_at}
-use Rattle.region_map.proofs.Order.{before_nil, before_some, before_self, before_trans, before_back, before_then, then_before, before_neither, not_before}
-use Rattle.region_map.proofs.Rows.{in_range_from, in_range_parts, past_end}
+use Rattle.region_map.proofs.Order.{before_some, before_self, before_back, before_then, before_neither}
+use Rattle.region_map.proofs.Rows.{in_range_from, in_range_parts}
 use Rattle.region_map.proofs.Bands.{none_before, row_at_is, value_at-pieces_of, in_band, past_band, before_band}
 
 -- ---- bounds

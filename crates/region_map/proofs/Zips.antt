@@ -1,14 +1,13 @@
 -- Two lists of stretches walked side by side.
-use Rattle.std.proofs.Common.{◌≡◌, ℕ, zero, suc, ◌+◌, ◌-◌, ◌<◌, ◌≤◌, Bool, true, false, cond, ◌&&◌, not, List, [], ◌∷◌, ◌++◌, length, drop, Option, Some, None, inl, inr, refl, sym, ap, ap₂, ◌∙◌, subst, arith}
-use Rattle.std.specs.List.{AllByRecursion}
-use Rattle.std.proofs.lemmas.Bool.{and_parts, and_from, and_left, and_right, not-true, not_from_true, not_from_false, both_ways, cases_lt}
+use Rattle.std.proofs.Common.{◌≡◌, ℕ, ◌+◌, ◌-◌, ◌<◌, ◌≤◌, Bool, true, false, cond, ◌&&◌, not, List, [], ◌∷◌, length, drop, Option, Some, None, inl, inr, refl, sym, ap, ap₂, ◌∙◌, subst, arith}
+use Rattle.std.proofs.lemmas.Bool.{not_from_false, both_ways, cases_lt}
 use Rattle.std.proofs.lemmas.List.{drop_all, drop-drop}
 use Rattle.region_map.specs.declared.row.Range.{Range}
 use Rattle.region_map.specs.declared.stretch.Stretch.{Stretch}
 use Rattle.region_map.specs.Regions.{before, low, below, in_range, is_bound, is_open, ends_by}
-use Rattle.region_map.specs.Maps.{row_value, IsRow, IsRange, Follows}
+use Rattle.region_map.specs.Maps.{row_value, IsRow}
 use Rattle.region_map.specs.Rows.{Precede, Puts, Emits, IsZipping, IsZipped, stretch_value, head_value, head_end, sooner, sooner_of}
-use Rattle.region_map.proofs.Order.{before_nil, before_self, before_trans, before_back, before_then, then_before, before_neither, not_before}
+use Rattle.region_map.proofs.Order.{before_nil, before_self, before_trans, before_back, before_then, before_neither, not_before}
 use Rattle.region_map.proofs.Rows.{in_range_parts, none_behind, precede_then}
 
 -- ---- one stretch comes out

@@ -1,12 +1,8 @@
 -- How the bands of a region map are made, and what its calls give at each pair.
-use Rattle.std.specs.Prelude.{◌≡◌, ℕ, ◌+◌, ◌==◌, ◌<◌, Bool, true, false, ◌&&◌, not, List, [], ◌∷◌, ◌++◌, map, nat_lt, nat_le, Option, Some, None, if◌then◌else◌}
-use Rattle.std.specs.List.{flat_map, AllByRecursion}
-use Rattle.std.specs.Option.{is_some}
-use Rattle.region_map.specs.declared.region.Region.{Region}
+use Rattle.std.specs.Prelude.{◌≡◌, ℕ, ◌+◌, ◌==◌, ◌&&◌, List, [], ◌∷◌, nat_lt, nat_le, if◌then◌else◌}
 use Rattle.region_map.specs.declared.row.Range.{Range}
 use Rattle.region_map.specs.declared.band.RowBand.{RowBand}
-use Rattle.region_map.specs.Regions.{in_region}
-use Rattle.region_map.specs.Maps.{Pieced, Band, AreBands, IsRow, value_at, row_value}
+use Rattle.region_map.specs.Maps.{Band, AreBands}
 
 -- the row of a hash
 abbrev pub row_at : {V : Type 0} → List (Band V) → ℕ → List (Range V)

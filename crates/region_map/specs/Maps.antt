@@ -1,9 +1,9 @@
 -- What clients see of a region map: its pieces, and the one value that they give each pair.
-use Rattle.std.specs.Prelude.{◌≡◌, ◌≢◌, ℕ, ◌<◌, ◌≤◌, Bool, true, false, ◌&&◌, not, List, [], ◌∷◌, ◌++◌, map, length, nat_lt, nat_le, Option, Some, None, if◌then◌else◌}
+use Rattle.std.specs.Prelude.{◌≡◌, ◌≢◌, ℕ, ◌<◌, ◌≤◌, true, List, [], ◌∷◌, map, Option, Some, None, if◌then◌else◌}
 use Rattle.std.specs.List.{flat_map, AllByRecursion}
 use Rattle.region_map.specs.declared.region.Region.{Region}
 use Rattle.region_map.specs.declared.row.Range.{Range}
-use Rattle.region_map.specs.Regions.{low, in_range, in_region, is_open, ends_by, is_bound}
+use Rattle.region_map.specs.Regions.{in_range, in_region, is_open, ends_by, is_bound}
 
 -- a region map: how many hashes it has, and its pieces in order
 pub record Pieced (V : Type 0) : Type 0 where

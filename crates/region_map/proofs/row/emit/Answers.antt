@@ -1,5 +1,4 @@
-use Rattle.std.proofs.Common.{◌≡◌, ◌∙◌, ap, sym, subst, true, false}
-use Rattle.region_map.specs.Regions.{is_bound}
+use Rattle.std.proofs.Common.{◌∙◌, sym, subst}
 use Rattle.region_map.specs.Rows.{Puts}
 use Rattle.region_map.proofs.Zips.{emits_some, emits_none, emits_empty}
 use Rattle.region_map.proofs.row.emit.Goals as goal

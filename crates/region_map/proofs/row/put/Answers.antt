@@ -1,4 +1,3 @@
-use Rattle.std.proofs.Common.{◌≡◌, ◌∙◌, ap, sym, subst, List, [], ◌∷◌, ◌++◌, true, false}
 use Rattle.std.proofs.lemmas.Bool.{both_ways}
 use Rattle.region_map.proofs.Rows.{puts_longer_at, puts_apart_at}
 use Rattle.region_map.proofs.row.put.Goals as goal

@@ -1,5 +1,5 @@
-use Rattle.std.proofs.Common.{◌≡◌, ◌<◌, ◌+◌, ◌-◌, ◌≤◌, ◌∙◌, ap, ap₂, sym, subst, true, false, cond, length, drop, refl, zero-le, arith}
-use Rattle.region_map.specs.Rows.{head_end, head_value, sooner, sooner_of}
+use Rattle.std.proofs.Common.{◌≡◌, ◌+◌, ◌∙◌, ap, ap₂, sym, cond, length, drop, refl, arith}
+use Rattle.region_map.specs.Rows.{head_end, sooner, sooner_of}
 use Rattle.region_map.proofs.Zips.{zip_begin, zip_step, zip_end, zip_less, next_within, is_within, left_is, right_is}
 use Rattle.region_map.proofs.row.zipped.Goals as goal
 

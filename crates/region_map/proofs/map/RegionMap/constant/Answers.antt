@@ -1,7 +1,7 @@
-use Rattle.std.proofs.Common.{◌≡◌, ◌<◌, ◌≤◌, ◌∙◌, ◌++◌, ◌∷◌, [], ℕ, List, Option, Some, None, cond, true, false, ◌&&◌, nat_lt, ap, sym, subst, refl, arith}
-use Rattle.std.proofs.lemmas.Bool.{and_parts, not-true, not-false, ltb-true}
-use Rattle.region_map.specs.Regions.{in_region, in_range, is_open}
-use Rattle.region_map.specs.Maps.{value_at, piece, IsRange}
+use Rattle.std.proofs.Common.{◌<◌, ◌∙◌, Some, None, cond, ap, sym}
+use Rattle.std.proofs.lemmas.Bool.{and_parts, ltb-true}
+use Rattle.region_map.specs.Regions.{in_range}
+use Rattle.region_map.specs.Maps.{value_at}
 use Rattle.region_map.proofs.Bands.{one_canonical, nothing_in, all_in, lesser_le}
 use Rattle.region_map.proofs.Calls.{push_first}
 use Rattle.region_map.proofs.map.RegionMap.constant.Goals as goal

@@ -1,5 +1,3 @@
-use Rattle.std.proofs.Common.{◌≡◌, subst, true}
-use Rattle.region_map.specs.Maps.{IsCanonical}
 use Rattle.region_map.proofs.Calls.{mask_at}
 use Rattle.region_map.proofs.map.RegionMap.mask.Goals as goal
 

@@ -1,4 +1,4 @@
-use Rattle.std.proofs.Common.{◌≡◌, subst, true}
+use Rattle.std.proofs.Common.{subst}
 use Rattle.region_map.specs.Maps.{IsCanonical}
 use Rattle.region_map.proofs.Calls.{meet_at}
 use Rattle.region_map.proofs.map.RegionMap.meet.Goals as goal

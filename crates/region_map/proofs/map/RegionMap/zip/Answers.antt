@@ -1,7 +1,7 @@
-use Rattle.std.proofs.Common.{◌≡◌, ◌<◌, ◌≤◌, ◌+◌, ◌∙◌, ℕ, List, map, ap, sym, subst, refl, arith}
-use Rattle.region_map.specs.Maps.{Pieced, IsCanonical, value_at, row_value}
+use Rattle.std.proofs.Common.{◌≡◌, ◌∙◌, map, ap, sym, subst, arith}
+use Rattle.region_map.specs.Maps.{Pieced, IsCanonical, value_at}
 use Rattle.region_map.specs.Rows.{ranges_at, stretches_of}
-use Rattle.region_map.specs.Bands.{band_of, row_at}
+use Rattle.region_map.specs.Bands.{band_of}
 use Rattle.region_map.proofs.Bands.{zip_more, zip_seen, none_past, value_at-pieces_of}
 use Rattle.region_map.proofs.map.RegionMap.zip.Goals as goal
 
