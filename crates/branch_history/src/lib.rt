@@ -6,8 +6,10 @@
 #![tactic(auto)]
 
 pub use history::{AddRefused, BranchBirth, History};
+pub use laws::{paths_are_ordered, paths_grow, paths_stay};
 pub use version::Version;
 
 pub mod history;
+pub mod laws;
 pub mod version;
 pub mod walk;
