@@ -33,43 +33,43 @@ none_is (Some b) e = absurd (cc)
 version_same : (v w : Version) → v.branch ≡ w.branch → v.timestamp ≡ w.timestamp → v ≡ w
 version_same v w e d = λ i. record { branch = e i; timestamp = d i }
 
-zero_is : (x : Version) → is_zero x ≡ true → x ≡ zero
+pub zero_is : (x : Version) → is_zero x ≡ true → x ≡ zero
 zero_is x e = let p = and_parts _ _ e in version_same x zero (none_is x.branch p.0) (eqb-true x.timestamp 0 p.1)
 
 -- ---- one branch of a path
 
-abbrev own : Id × BranchBirth → Version → Version → Bool
+abbrev pub own : Id × BranchBirth → Version → Version → Bool
 own b v x = is_branch x b.0 && (nat_le b.1.initial x.timestamp && nat_le x.timestamp v.timestamp)
 
-data Part (b : Id × BranchBirth) (bs : Branches) (h : ℕ) (k : List ℕ) (v x : Version) : Type 0 where
+pub data Part (b : Id × BranchBirth) (bs : Branches) (h : ℕ) (k : List ℕ) (v x : Version) : Type 0 where
   Other : is_branch v b.0 ≡ false → is_on bs h k v x ≡ true → Part b bs h k v x
   Own : is_branch v b.0 ≡ true → in_region b.1.region h k ≡ true → is_branch x b.0 ≡ true → b.1.initial ≤ x.timestamp → x.timestamp ≤ v.timestamp → Part b bs h k v x
   Older : is_branch v b.0 ≡ true → in_region b.1.region h k ≡ true → is_on bs h k (origin_at b.1 h k) x ≡ true → Part b bs h k v x
   Outside : is_branch v b.0 ≡ true → in_region b.1.region h k ≡ false → is_zero x ≡ true → Part b bs h k v x
 
 module _ (b : Id × BranchBirth) (bs : Branches) (h : ℕ) (k : List ℕ) where
-  other_is : (v x : Version) → is_branch v b.0 ≡ false → is_on (b ∷ bs) h k v x ≡ is_on bs h k v x
+  pub other_is : (v x : Version) → is_branch v b.0 ≡ false → is_on (b ∷ bs) h k v x ≡ is_on bs h k v x
   other_is v x f = ap (λ c. cond c (cond (in_region b.1.region h k) (cond (own b v x) true (is_on bs h k (origin_at b.1 h k) x)) (is_zero x)) (is_on bs h k v x)) f
 
-  inside_is : (v x : Version) → is_branch v b.0 ≡ true → in_region b.1.region h k ≡ true → is_on (b ∷ bs) h k v x ≡ cond (own b v x) true (is_on bs h k (origin_at b.1 h k) x)
+  pub inside_is : (v x : Version) → is_branch v b.0 ≡ true → in_region b.1.region h k ≡ true → is_on (b ∷ bs) h k v x ≡ cond (own b v x) true (is_on bs h k (origin_at b.1 h k) x)
   inside_is v x t i =
       ap (λ c. cond c (cond (in_region b.1.region h k) (cond (own b v x) true (is_on bs h k (origin_at b.1 h k) x)) (is_zero x)) (is_on bs h k v x)) t
       ∙ ap (λ c. cond c (cond (own b v x) true (is_on bs h k (origin_at b.1 h k) x)) (is_zero x)) i
 
-  outside_is : (v x : Version) → is_branch v b.0 ≡ true → in_region b.1.region h k ≡ false → is_on (b ∷ bs) h k v x ≡ is_zero x
+  pub outside_is : (v x : Version) → is_branch v b.0 ≡ true → in_region b.1.region h k ≡ false → is_on (b ∷ bs) h k v x ≡ is_zero x
   outside_is v x t i =
       ap (λ c. cond c (cond (in_region b.1.region h k) (cond (own b v x) true (is_on bs h k (origin_at b.1 h k) x)) (is_zero x)) (is_on bs h k v x)) t
       ∙ ap (λ c. cond c (cond (own b v x) true (is_on bs h k (origin_at b.1 h k) x)) (is_zero x)) i
 
-  own_on : (v x : Version) → is_branch v b.0 ≡ true → in_region b.1.region h k ≡ true → is_branch x b.0 ≡ true → b.1.initial ≤ x.timestamp → x.timestamp ≤ v.timestamp → is_on (b ∷ bs) h k v x ≡ true
+  pub own_on : (v x : Version) → is_branch v b.0 ≡ true → in_region b.1.region h k ≡ true → is_branch x b.0 ≡ true → b.1.initial ≤ x.timestamp → x.timestamp ≤ v.timestamp → is_on (b ∷ bs) h k v x ≡ true
   own_on v x t i o lo up =
       let e : own b v x ≡ true = and_from _ _ o (and_from _ _ (le-leb b.1.initial x.timestamp lo) (le-leb x.timestamp v.timestamp up)) in
       inside_is v x t i ∙ ap (λ c. cond c true (is_on bs h k (origin_at b.1 h k) x)) e
 
-  older_on : (v x : Version) → is_branch v b.0 ≡ true → in_region b.1.region h k ≡ true → is_on bs h k (origin_at b.1 h k) x ≡ true → is_on (b ∷ bs) h k v x ≡ true
+  pub older_on : (v x : Version) → is_branch v b.0 ≡ true → in_region b.1.region h k ≡ true → is_on bs h k (origin_at b.1 h k) x ≡ true → is_on (b ∷ bs) h k v x ≡ true
   older_on v x t i o = inside_is v x t i ∙ elim (own b v x) as (λ c. cond c true (is_on bs h k (origin_at b.1 h k) x) ≡ true) [ true ↦ refl | false ↦ o ]
 
-  part : (v x : Version) → is_on (b ∷ bs) h k v x ≡ true → Part b bs h k v x
+  pub part : (v x : Version) → is_on (b ∷ bs) h k v x ≡ true → Part b bs h k v x
   part v x e =
       elim (cases_Bool (is_branch v b.0)) [
         | inr f ↦ Other f (sym (other_is v x f) ∙ e)
@@ -124,7 +124,7 @@ not_new b bs o n e =
       | inr f ↦ f
     ]
 
-older_not_new : (b : Id × BranchBirth) (bs : Branches) (h : ℕ) (k : List ℕ) (v x : Version) → IsHistory (b ∷ bs) → is_on bs h k v x ≡ true → is_branch x b.0 ≡ false
+pub older_not_new : (b : Id × BranchBirth) (bs : Branches) (h : ℕ) (k : List ℕ) (v x : Version) → IsHistory (b ∷ bs) → is_on bs h k v x ≡ true → is_branch x b.0 ≡ false
 older_not_new b bs h k v x i e = not_new b bs x.branch i.0 (known_on bs h k v x e)
 
 pub path_stays : (b : Id × BranchBirth) (bs : Branches) (h : ℕ) (k : List ℕ) (v x : Version) → IsHistory (b ∷ bs) → knows_branch bs v.branch ≡ true → is_on (b ∷ bs) h k v x ≡ is_on bs h k v x
@@ -134,7 +134,7 @@ path_stays b bs h k v x i e = other_is b bs h k v x (not_new b bs v.branch i.0 e
 lower : (b : Id × BranchBirth) (bs : Branches) (h : ℕ) (k : List ℕ) (v x y : Version) → IsHistory (b ∷ bs) → is_on bs h k v x ≡ true → is_on (b ∷ bs) h k x y ≡ true → is_on bs h k x y ≡ true
 lower b bs h k v x y i o e = sym (other_is b bs h k x y (older_not_new b bs h k v x i o)) ∙ e
 
-raise : (b : Id × BranchBirth) (bs : Branches) (h : ℕ) (k : List ℕ) (v x y : Version) → IsHistory (b ∷ bs) → is_on bs h k v x ≡ true → is_on bs h k x y ≡ true → is_on (b ∷ bs) h k x y ≡ true
+pub raise : (b : Id × BranchBirth) (bs : Branches) (h : ℕ) (k : List ℕ) (v x y : Version) → IsHistory (b ∷ bs) → is_on bs h k v x ≡ true → is_on bs h k x y ≡ true → is_on (b ∷ bs) h k x y ≡ true
 raise b bs h k v x y i o e = other_is b bs h k x y (older_not_new b bs h k v x i o) ∙ e
 
 -- ---- order

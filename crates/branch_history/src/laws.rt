@@ -1,5 +1,5 @@
 //! What holds of all paths, at a pair of a hash and a byte list.
-ghost use Rattle.std.specs.Prelude.{◌≡◌, ℕ, ◌<◌, ◌≤◌, ◌^◌, ◌⊎◌, true, List, ◌∷◌};
+ghost use Rattle.std.specs.Prelude.{◌≡◌, ℕ, ◌<◌, ◌≤◌, ◌^◌, ◌⊎◌, true, List, ◌∷◌, Some};
 ghost use Rattle.region_map.specs.declared.id.Id.{Id};
 ghost use Rattle.branch_history.specs.declared.version.Version.{Version};
 ghost use Rattle.branch_history.specs.declared.history.BranchBirth.{BranchBirth};
@@ -29,4 +29,22 @@ pub fn paths_grow()
 pub fn paths_stay()
     ensures { (b : Id × BranchBirth) (bs : Branches) (h : ℕ) (k : List ℕ) (v x : Version) → IsHistory (b ∷ bs)
         → knows_branch bs v.branch ≡ true → is_on (b ∷ bs) h k v x ≡ is_on bs h k v x }
+{}
+
+/// The common ancestor is the last point on both paths: it is on both, and each point on both is on its path.
+/// So it is the only such point, and to take it again with either version changes nothing.
+pub fn ancestors_are_last()
+    ensures first { (bs : Branches) (h : ℕ) (k : List ℕ) (v w : Version) → IsHistory bs → is_on bs h k v (ancestor bs h k v w) ≡ true }
+    ensures second { (bs : Branches) (h : ℕ) (k : List ℕ) (v w : Version) → IsHistory bs → is_on bs h k w (ancestor bs h k v w) ≡ true }
+    ensures last { (bs : Branches) (h : ℕ) (k : List ℕ) (v w x : Version) → IsHistory bs
+        → is_on bs h k v x ≡ true → is_on bs h k w x ≡ true → is_on bs h k (ancestor bs h k v w) x ≡ true }
+    ensures once { (bs : Branches) (h : ℕ) (k : List ℕ) (v w : Version) → IsHistory bs
+        → ancestor bs h k (ancestor bs h k v w) w ≡ ancestor bs h k v w }
+{}
+
+/// A version that is projected on a branch is its common ancestor with the whole of that branch: with its
+/// version at the greatest timestamp, on whose path is all that is on the path of any version of the branch.
+pub fn a_whole_branch_has_its_versions()
+    ensures { (bs : Branches) (h : ℕ) (k : List ℕ) (id : Id) (t : ℕ) (x : Version) → t < 18446744073709551616
+        → is_on bs h k (record { branch = Some id; timestamp = t }) x ≡ true → is_on bs h k (whole id) x ≡ true }
 {}
