@@ -20,49 +20,49 @@ module _ (b : Id × BranchBirth) (bs : Branches) (h : ℕ) (k : List ℕ) (i : I
   last_own : (v w : Version) → is_branch v b.0 ≡ true → is_branch w b.0 ≡ true → in_region b.1.region h k ≡ true → b.1.initial ≤ min v.timestamp w.timestamp
       → IsLast (b ∷ bs) h k v w (record { branch = Some b.0; timestamp = min v.timestamp w.timestamp })
   last_own v w t u r l =
-    let low : Version = record { branch = Some b.0; timestamp = min v.timestamp w.timestamp } in
-    record {
-      first = own_on b bs h k v low t r (id_self b.0) l (omega arith);
-      second = own_on b bs h k w low u r (id_self b.0) l (omega arith);
-      last = λ x e d. elim (part b bs h k v x e) [
-        | Other f o ↦ absurd (both_ways _ f t)
-        | Own _ _ o lo up ↦ elim (part b bs h k w x d) [
+      let low : Version = record { branch = Some b.0; timestamp = min v.timestamp w.timestamp } in
+      record {
+        first = own_on b bs h k v low t r (id_self b.0) l (omega arith);
+        second = own_on b bs h k w low u r (id_self b.0) l (omega arith);
+        last = λ x e d. elim (part b bs h k v x e) [
+          | Other f o ↦ absurd (both_ways _ f t)
+          | Own _ _ o lo up ↦ elim (part b bs h k w x d) [
             | Other f p ↦ absurd (both_ways _ f u)
             | Own _ _ p low_x up_x ↦ own_on b bs h k low x (id_self b.0) r o lo (omega arith)
             | Older _ _ p ↦ older_on b bs h k low x (id_self b.0) r p
             | Outside _ s p ↦ absurd (both_ways _ s r)
           ]
-        | Older _ _ o ↦ older_on b bs h k low x (id_self b.0) r o
-        | Outside _ s p ↦ absurd (both_ways _ s r)
-      ];
-    }
+          | Older _ _ o ↦ older_on b bs h k low x (id_self b.0) r o
+          | Outside _ s p ↦ absurd (both_ways _ s r)
+        ];
+      }
 
   -- both on the branch, and one below its initial timestamp
   last_origin : (v w a : Version) → is_branch v b.0 ≡ true → is_branch w b.0 ≡ true → in_region b.1.region h k ≡ true → min v.timestamp w.timestamp < b.1.initial
       → IsLast bs h k (origin_at b.1 h k) (origin_at b.1 h k) a → IsLast (b ∷ bs) h k v w a
   last_origin v w a t u r l s = record {
-      first = older_on b bs h k v a t r s.first;
-      second = older_on b bs h k w a u r s.first;
-      last = λ x e d. elim (part b bs h k v x e) [
-        | Other f o ↦ absurd (both_ways _ f t)
-        | Own _ _ o lo up ↦ elim (part b bs h k w x d) [
-            | Other f p ↦ absurd (both_ways _ f u)
-            | Own _ _ p low_x up_x ↦ absurd (omega arith)
-            | Older _ _ p ↦ raise b bs h k (origin_at b.1 h k) a x i s.first (s.last x p p)
-            | Outside _ z p ↦ absurd (both_ways _ z r)
-          ]
-        | Older _ _ o ↦ raise b bs h k (origin_at b.1 h k) a x i s.first (s.last x o o)
+    first = older_on b bs h k v a t r s.first;
+    second = older_on b bs h k w a u r s.first;
+    last = λ x e d. elim (part b bs h k v x e) [
+      | Other f o ↦ absurd (both_ways _ f t)
+      | Own _ _ o lo up ↦ elim (part b bs h k w x d) [
+        | Other f p ↦ absurd (both_ways _ f u)
+        | Own _ _ p low_x up_x ↦ absurd (omega arith)
+        | Older _ _ p ↦ raise b bs h k (origin_at b.1 h k) a x i s.first (s.last x p p)
         | Outside _ z p ↦ absurd (both_ways _ z r)
-      ];
-    }
+      ]
+      | Older _ _ o ↦ raise b bs h k (origin_at b.1 h k) a x i s.first (s.last x o o)
+      | Outside _ z p ↦ absurd (both_ways _ z r)
+    ];
+  }
 
   -- the first alone on the branch
   last_left : (v w a : Version) → is_branch v b.0 ≡ true → is_branch w b.0 ≡ false → in_region b.1.region h k ≡ true
       → IsLast bs h k (origin_at b.1 h k) w a → IsLast (b ∷ bs) h k v w a
   last_left v w a t f r s = record {
-      first = older_on b bs h k v a t r s.first;
-      second = other_is b bs h k w a f ∙ s.second;
-      last = λ x e d.
+    first = older_on b bs h k v a t r s.first;
+    second = other_is b bs h k w a f ∙ s.second;
+    last = λ x e d.
         let below = sym (other_is b bs h k w x f) ∙ d in
         elim (part b bs h k v x e) [
           | Other g o ↦ absurd (both_ways _ g t)
@@ -70,7 +70,7 @@ module _ (b : Id × BranchBirth) (bs : Branches) (h : ℕ) (k : List ℕ) (i : I
           | Older _ _ o ↦ raise b bs h k (origin_at b.1 h k) a x i s.first (s.last x o below)
           | Outside _ z p ↦ absurd (both_ways _ z r)
         ];
-    }
+  }
 
   last_swap : (v w a : Version) → IsLast (b ∷ bs) h k v w a → IsLast (b ∷ bs) h k w v a
   last_swap v w a s = record { first = s.second; second = s.first; last = λ x e d. s.last x d e }
@@ -78,18 +78,18 @@ module _ (b : Id × BranchBirth) (bs : Branches) (h : ℕ) (k : List ℕ) (i : I
   -- one on the branch, which does not have the pair
   last_zero : (v w : Version) → is_branch v b.0 ≡ true → in_region b.1.region h k ≡ false → IsLast (b ∷ bs) h k v w zero
   last_zero v w t r = record {
-      first = zero_on (b ∷ bs) h k v;
-      second = zero_on (b ∷ bs) h k w;
-      last = λ x e d. on_zero (b ∷ bs) h k x ∙ sym (outside_is b bs h k v x t r) ∙ e;
-    }
+    first = zero_on (b ∷ bs) h k v;
+    second = zero_on (b ∷ bs) h k w;
+    last = λ x e d. on_zero (b ∷ bs) h k x ∙ sym (outside_is b bs h k v x t r) ∙ e;
+  }
 
   -- neither on the branch
   last_other : (v w a : Version) → is_branch v b.0 ≡ false → is_branch w b.0 ≡ false → IsLast bs h k v w a → IsLast (b ∷ bs) h k v w a
   last_other v w a f g s = record {
-      first = other_is b bs h k v a f ∙ s.first;
-      second = other_is b bs h k w a g ∙ s.second;
-      last = λ x e d. raise b bs h k v a x i s.first (s.last x (sym (other_is b bs h k v x f) ∙ e) (sym (other_is b bs h k w x g) ∙ d));
-    }
+    first = other_is b bs h k v a f ∙ s.first;
+    second = other_is b bs h k w a g ∙ s.second;
+    last = λ x e d. raise b bs h k v a x i s.first (s.last x (sym (other_is b bs h k v x f) ∙ e) (sym (other_is b bs h k w x g) ∙ d));
+  }
 
 swapped : (bs : Branches) (h : ℕ) (k : List ℕ) (v w a : Version) → IsLast bs h k v w a → IsLast bs h k w v a
 swapped bs h k v w a s = record { first = s.second; second = s.first; last = λ x e d. s.last x d e }
@@ -101,26 +101,26 @@ ancestor_last (b ∷ bs) h k v w i =
     let low : Version = record { branch = Some b.0; timestamp = min v.timestamp w.timestamp } in
     let n = nat_le b.1.initial (min v.timestamp w.timestamp) in
     elim (is_branch v b.0) as (λ p. is_branch v b.0 ≡ p → IsLast (b ∷ bs) h k v w
-        (cond p (cond (in_region b.1.region h k) (cond (is_branch w b.0) (cond n low (ancestor bs h k o o)) (ancestor bs h k o w)) zero)
-                (cond (is_branch w b.0) (cond (in_region b.1.region h k) (ancestor bs h k v o) zero) (ancestor bs h k v w)))) [
+    (cond p (cond (in_region b.1.region h k) (cond (is_branch w b.0) (cond n low (ancestor bs h k o o)) (ancestor bs h k o w)) zero)
+    (cond (is_branch w b.0) (cond (in_region b.1.region h k) (ancestor bs h k v o) zero) (ancestor bs h k v w)))) [
       | true ↦ λ t. elim (in_region b.1.region h k) as (λ r. in_region b.1.region h k ≡ r → IsLast (b ∷ bs) h k v w
-            (cond r (cond (is_branch w b.0) (cond n low (ancestor bs h k o o)) (ancestor bs h k o w)) zero)) [
-          | true ↦ λ r. elim (is_branch w b.0) as (λ q. is_branch w b.0 ≡ q → IsLast (b ∷ bs) h k v w (cond q (cond n low (ancestor bs h k o o)) (ancestor bs h k o w))) [
+          (cond r (cond (is_branch w b.0) (cond n low (ancestor bs h k o o)) (ancestor bs h k o w)) zero)) [
+            | true ↦ λ r. elim (is_branch w b.0) as (λ q. is_branch w b.0 ≡ q → IsLast (b ∷ bs) h k v w (cond q (cond n low (ancestor bs h k o o)) (ancestor bs h k o w))) [
               | true ↦ λ u. elim n as (λ m. nat_le b.1.initial (min v.timestamp w.timestamp) ≡ m → IsLast (b ∷ bs) h k v w (cond m low (ancestor bs h k o o))) [
-                  | true ↦ λ l. last_own b bs h k i v w t u r (leb-true b.1.initial (min v.timestamp w.timestamp) l)
-                  | false ↦ λ l. last_origin b bs h k i v w (ancestor bs h k o o) t u r (leb-false b.1.initial (min v.timestamp w.timestamp) l) (ancestor_last bs h k o o i.3)
-                ] refl
+                | true ↦ λ l. last_own b bs h k i v w t u r (leb-true b.1.initial (min v.timestamp w.timestamp) l)
+                | false ↦ λ l. last_origin b bs h k i v w (ancestor bs h k o o) t u r (leb-false b.1.initial (min v.timestamp w.timestamp) l) (ancestor_last bs h k o o i.3)
+              ] refl
               | false ↦ λ f. last_left b bs h k i v w (ancestor bs h k o w) t f r (ancestor_last bs h k o w i.3)
             ] refl
-          | false ↦ λ r. last_zero b bs h k i v w t r
-        ] refl
+            | false ↦ λ r. last_zero b bs h k i v w t r
+          ] refl
       | false ↦ λ f. elim (is_branch w b.0) as (λ q. is_branch w b.0 ≡ q → IsLast (b ∷ bs) h k v w (cond q (cond (in_region b.1.region h k) (ancestor bs h k v o) zero) (ancestor bs h k v w))) [
-          | true ↦ λ u. elim (in_region b.1.region h k) as (λ r. in_region b.1.region h k ≡ r → IsLast (b ∷ bs) h k v w (cond r (ancestor bs h k v o) zero)) [
-              | true ↦ λ r. last_swap b bs h k i w v (ancestor bs h k v o) (last_left b bs h k i w v (ancestor bs h k v o) u f r (swapped bs h k v o (ancestor bs h k v o) (ancestor_last bs h k v o i.3)))
-              | false ↦ λ r. last_swap b bs h k i w v zero (last_zero b bs h k i w v u r)
-            ] refl
-          | false ↦ λ g. last_other b bs h k i v w (ancestor bs h k v w) f g (ancestor_last bs h k v w i.3)
+        | true ↦ λ u. elim (in_region b.1.region h k) as (λ r. in_region b.1.region h k ≡ r → IsLast (b ∷ bs) h k v w (cond r (ancestor bs h k v o) zero)) [
+          | true ↦ λ r. last_swap b bs h k i w v (ancestor bs h k v o) (last_left b bs h k i w v (ancestor bs h k v o) u f r (swapped bs h k v o (ancestor bs h k v o) (ancestor_last bs h k v o i.3)))
+          | false ↦ λ r. last_swap b bs h k i w v zero (last_zero b bs h k i w v u r)
         ] refl
+        | false ↦ λ g. last_other b bs h k i v w (ancestor bs h k v w) f g (ancestor_last bs h k v w i.3)
+      ] refl
     ] refl
 
 -- there is one such point

@@ -74,12 +74,12 @@ module _ (b : Id × BranchBirth) (bs : Branches) (h : ℕ) (k : List ℕ) where
       elim (cases_Bool (is_branch v b.0)) [
         | inr f ↦ Other f (sym (other_is v x f) ∙ e)
         | inl t ↦ elim (cases_Bool (in_region b.1.region h k)) [
-            | inr o ↦ Outside t o (sym (outside_is v x t o) ∙ e)
-            | inl i ↦ elim (cases_Bool (own b v x)) [
-                | inl w ↦ let p = and_parts _ _ w in let q = and_parts _ _ p.1 in Own t i p.0 (leb-true b.1.initial x.timestamp q.0) (leb-true x.timestamp v.timestamp q.1)
-                | inr n ↦ Older t i (sym (ap (λ c. cond c true (is_on bs h k (origin_at b.1 h k) x)) n) ∙ sym (inside_is v x t i) ∙ e)
-              ]
+          | inr o ↦ Outside t o (sym (outside_is v x t o) ∙ e)
+          | inl i ↦ elim (cases_Bool (own b v x)) [
+            | inl w ↦ let p = and_parts _ _ w in let q = and_parts _ _ p.1 in Own t i p.0 (leb-true b.1.initial x.timestamp q.0) (leb-true x.timestamp v.timestamp q.1)
+            | inr n ↦ Older t i (sym (ap (λ c. cond c true (is_on bs h k (origin_at b.1 h k) x)) n) ∙ sym (inside_is v x t i) ∙ e)
           ]
+        ]
       ]
 
 -- ---- the zero version, and what a path knows
@@ -90,9 +90,9 @@ zero_on (b ∷ bs) h k v =
     elim (cases_Bool (is_branch v b.0)) [
       | inr f ↦ other_is b bs h k v zero f ∙ zero_on bs h k v
       | inl t ↦ elim (cases_Bool (in_region b.1.region h k)) [
-          | inr o ↦ outside_is b bs h k v zero t o
-          | inl i ↦ older_on b bs h k v zero t i (zero_on bs h k (origin_at b.1 h k))
-        ]
+        | inr o ↦ outside_is b bs h k v zero t o
+        | inl i ↦ older_on b bs h k v zero t i (zero_on bs h k (origin_at b.1 h k))
+      ]
     ]
 
 pub on_zero : (bs : Branches) (h : ℕ) (k : List ℕ) (x : Version) → is_on bs h k zero x ≡ is_zero x
@@ -155,11 +155,11 @@ on_trans (b ∷ bs) h k v x y i e d =
     elim (part b bs h k v x e) [
       | Other f o ↦ other_is b bs h k v y f ∙ on_trans bs h k v x y i.3 o (lower b bs h k v x y i o d)
       | Own t r o lo up ↦ elim (part b bs h k x y d) [
-          | Other f p ↦ absurd (both_ways _ f o)
-          | Own u s p low high ↦ own_on b bs h k v y t r p low (omega arith)
-          | Older u s p ↦ older_on b bs h k v y t r p
-          | Outside u s p ↦ absurd (both_ways _ s r)
-        ]
+        | Other f p ↦ absurd (both_ways _ f o)
+        | Own u s p low high ↦ own_on b bs h k v y t r p low (omega arith)
+        | Older u s p ↦ older_on b bs h k v y t r p
+        | Outside u s p ↦ absurd (both_ways _ s r)
+      ]
       | Older t r o ↦ older_on b bs h k v y t r (on_trans bs h k (origin_at b.1 h k) x y i.3 o (lower b bs h k (origin_at b.1 h k) x y i o d))
       | Outside t o z ↦ outside_is b bs h k v y t o ∙ sym (on_zero (b ∷ bs) h k y) ∙ subst (λ u. is_on (b ∷ bs) h k u y ≡ true) (zero_is x z) d
     ]
@@ -169,29 +169,29 @@ on_linear [] h k v x y i e d = inl d
 on_linear (b ∷ bs) h k v x y i e d =
     elim (part b bs h k v x e) [
       | Other f o ↦ elim (part b bs h k v y d) [
-          | Other g p ↦ elim (on_linear bs h k v x y i.3 o p) [ | inl a ↦ inl (raise b bs h k v x y i o a) | inr a ↦ inr (raise b bs h k v y x i p a) ]
-          | Own u s p low high ↦ absurd (both_ways _ f u)
-          | Older u s p ↦ absurd (both_ways _ f u)
-          | Outside u s p ↦ absurd (both_ways _ f u)
-        ]
+        | Other g p ↦ elim (on_linear bs h k v x y i.3 o p) [ inl a ↦ inl (raise b bs h k v x y i o a) | inr a ↦ inr (raise b bs h k v y x i p a) ]
+        | Own u s p low high ↦ absurd (both_ways _ f u)
+        | Older u s p ↦ absurd (both_ways _ f u)
+        | Outside u s p ↦ absurd (both_ways _ f u)
+      ]
       | Own t r o lo up ↦ elim (part b bs h k v y d) [
-          | Other g p ↦ absurd (both_ways _ g t)
-          | Own u s p low high ↦ elim (cases_lt x.timestamp y.timestamp) [
-              | inl lt ↦ inr (own_on b bs h k y x p r o lo (omega arith))
-              | inr ge ↦ inl (own_on b bs h k x y o r p low ge)
-            ]
-          | Older u s p ↦ inl (older_on b bs h k x y o r p)
-          | Outside u s p ↦ absurd (both_ways _ s r)
+        | Other g p ↦ absurd (both_ways _ g t)
+        | Own u s p low high ↦ elim (cases_lt x.timestamp y.timestamp) [
+          | inl lt ↦ inr (own_on b bs h k y x p r o lo (omega arith))
+          | inr ge ↦ inl (own_on b bs h k x y o r p low ge)
         ]
+        | Older u s p ↦ inl (older_on b bs h k x y o r p)
+        | Outside u s p ↦ absurd (both_ways _ s r)
+      ]
       | Older t r o ↦ elim (part b bs h k v y d) [
-          | Other g p ↦ absurd (both_ways _ g t)
-          | Own u s p low high ↦ inr (older_on b bs h k y x p s o)
-          | Older u s p ↦ elim (on_linear bs h k (origin_at b.1 h k) x y i.3 o p) [
-              | inl a ↦ inl (raise b bs h k (origin_at b.1 h k) x y i o a)
-              | inr a ↦ inr (raise b bs h k (origin_at b.1 h k) y x i p a)
-            ]
-          | Outside u s p ↦ absurd (both_ways _ s r)
+        | Other g p ↦ absurd (both_ways _ g t)
+        | Own u s p low high ↦ inr (older_on b bs h k y x p s o)
+        | Older u s p ↦ elim (on_linear bs h k (origin_at b.1 h k) x y i.3 o p) [
+          | inl a ↦ inl (raise b bs h k (origin_at b.1 h k) x y i o a)
+          | inr a ↦ inr (raise b bs h k (origin_at b.1 h k) y x i p a)
         ]
+        | Outside u s p ↦ absurd (both_ways _ s r)
+      ]
       | Outside t o z ↦ inr (subst (λ u. is_on (b ∷ bs) h k y u ≡ true) (sym (zero_is x z)) (zero_on (b ∷ bs) h k y))
     ]
 
@@ -201,11 +201,11 @@ on_antisym (b ∷ bs) h k x y i e d =
     elim (part b bs h k x y e) [
       | Other f o ↦ on_antisym bs h k x y i.3 o (lower b bs h k x y x i o d)
       | Own t r o lo up ↦ elim (part b bs h k y x d) [
-          | Other g p ↦ absurd (both_ways _ g o)
-          | Own u s p low high ↦ version_same x y (of_branch x.branch b.0 t ∙ sym (of_branch y.branch b.0 o)) (omega arith)
-          | Older u s p ↦ absurd (both_ways _ (older_not_new b bs h k (origin_at b.1 h k) x i p) t)
-          | Outside u s p ↦ absurd (both_ways _ s r)
-        ]
+        | Other g p ↦ absurd (both_ways _ g o)
+        | Own u s p low high ↦ version_same x y (of_branch x.branch b.0 t ∙ sym (of_branch y.branch b.0 o)) (omega arith)
+        | Older u s p ↦ absurd (both_ways _ (older_not_new b bs h k (origin_at b.1 h k) x i p) t)
+        | Outside u s p ↦ absurd (both_ways _ s r)
+      ]
       | Older t r o ↦
           let back = lower b bs h k (origin_at b.1 h k) y x i o d in
           absurd (both_ways _ (older_not_new b bs h k y x i back) t)

@@ -25,27 +25,27 @@ walked_going (b ∷ bs) h k v w =
     let low : Version = record { branch = Some b.0; timestamp = min v.timestamp w.timestamp } in
     let i = nat_le b.1.initial (min v.timestamp w.timestamp) in
     elim (is_branch v b.0) as (λ p. walked bs h k (cond (p || is_branch w b.0) (met b.0 b.1.initial v w p (is_branch w b.0) (cond (in_region b.1.region h k) (Some o) None)) (Going v w))
-        ≡ cond p (cond (in_region b.1.region h k) (cond (is_branch w b.0) (cond i low (ancestor bs h k start start)) (ancestor bs h k start w)) zero)
-                 (cond (is_branch w b.0) (cond (in_region b.1.region h k) (ancestor bs h k v start) zero) (ancestor bs h k v w))) [
+    ≡ cond p (cond (in_region b.1.region h k) (cond (is_branch w b.0) (cond i low (ancestor bs h k start start)) (ancestor bs h k start w)) zero)
+    (cond (is_branch w b.0) (cond (in_region b.1.region h k) (ancestor bs h k v start) zero) (ancestor bs h k v w))) [
       | true ↦ elim (in_region b.1.region h k) as (λ r. walked bs h k (met b.0 b.1.initial v w true (is_branch w b.0) (cond r (Some o) None))
-            ≡ cond r (cond (is_branch w b.0) (cond i low (ancestor bs h k start start)) (ancestor bs h k start w)) zero) [
-          | true ↦ elim (is_branch w b.0) as (λ q. walked bs h k (met b.0 b.1.initial v w true q (Some o)) ≡ cond q (cond i low (ancestor bs h k start start)) (ancestor bs h k start w)) [
+          ≡ cond r (cond (is_branch w b.0) (cond i low (ancestor bs h k start start)) (ancestor bs h k start w)) zero) [
+            | true ↦ elim (is_branch w b.0) as (λ q. walked bs h k (met b.0 b.1.initial v w true q (Some o)) ≡ cond q (cond i low (ancestor bs h k start start)) (ancestor bs h k start w)) [
               | true ↦ elim i as (λ t. walked bs h k (cond t (At low) (Going start start)) ≡ cond t low (ancestor bs h k start start)) [
-                  | true ↦ walked_stays bs h k low
-                  | false ↦ walked_going bs h k start start
-                ]
+                | true ↦ walked_stays bs h k low
+                | false ↦ walked_going bs h k start start
+              ]
               | false ↦ walked_going bs h k start w
             ]
-          | false ↦ walked_stays bs h k zero
-        ]
+            | false ↦ walked_stays bs h k zero
+          ]
       | false ↦ elim (is_branch w b.0) as (λ q. walked bs h k (cond q (met b.0 b.1.initial v w false q (cond (in_region b.1.region h k) (Some o) None)) (Going v w))
-            ≡ cond q (cond (in_region b.1.region h k) (ancestor bs h k v start) zero) (ancestor bs h k v w)) [
-          | true ↦ elim (in_region b.1.region h k) as (λ r. walked bs h k (met b.0 b.1.initial v w false true (cond r (Some o) None)) ≡ cond r (ancestor bs h k v start) zero) [
+          ≡ cond q (cond (in_region b.1.region h k) (ancestor bs h k v start) zero) (ancestor bs h k v w)) [
+            | true ↦ elim (in_region b.1.region h k) as (λ r. walked bs h k (met b.0 b.1.initial v w false true (cond r (Some o) None)) ≡ cond r (ancestor bs h k v start) zero) [
               | true ↦ walked_going bs h k v start
               | false ↦ walked_stays bs h k zero
             ]
-          | false ↦ walked_going bs h k v w
-        ]
+            | false ↦ walked_going bs h k v w
+          ]
     ]
 
 pub started_at : (bs : Branches) (h : ℕ) (k : List ℕ) (a b : Option Version) → walked_at bs h k (started a b) ≡ both_at (ancestor bs h k) a b
@@ -94,9 +94,9 @@ step_at b walks new here origins copy n h k c en ec eh at_here at_origins at bey
           let i : h < n = subst (λ x. h < x) (sym en) lt in
           let j : h < here.hashes = subst (λ x. h < x) (sym eh) i in
           at lt ∙ ap (on b.0 b.1.initial (value_at walks.pieces h k))
-            (at_origins j
-              ∙ ap (λ x. within x (value_at b.1.origin.pieces h k))
-                  (at_here ∙ ap (λ x. cond (x && in_region copy h k) (Some true) None) (lt-ltb h n i) ∙ ap (λ x. cond (in_region x h k) (Some true) None) ec)
-              ∙ within_by (in_region b.1.region h k) (value_at b.1.origin.pieces h k))
+          (at_origins j
+          ∙ ap (λ x. within x (value_at b.1.origin.pieces h k))
+          (at_here ∙ ap (λ x. cond (x && in_region copy h k) (Some true) None) (lt-ltb h n i) ∙ ap (λ x. cond (in_region x h k) (Some true) None) ec)
+          ∙ within_by (in_region b.1.region h k) (value_at b.1.origin.pieces h k))
       | inr ge ↦ beyond ge ∙ sym (ap (λ x. on b.0 b.1.initial x (origin_in b.1 h k)) (none_beyond walks h k c ge))
     ]

@@ -48,10 +48,10 @@ is_on [] h k end point = is_zero point
 is_on (b ∷ bs) h k end point =
     if is_branch end b.0
     then (if in_region b.1.region h k
-          then (if is_branch point b.0 && (nat_le b.1.initial point.timestamp && nat_le point.timestamp end.timestamp)
-                then true
-                else is_on bs h k (origin_at b.1 h k) point)
-          else is_zero point)
+    then (if is_branch point b.0 && (nat_le b.1.initial point.timestamp && nat_le point.timestamp end.timestamp)
+    then true
+    else is_on bs h k (origin_at b.1 h k) point)
+    else is_zero point)
     else is_on bs h k end point
 
 -- the last point on the paths of both versions
@@ -60,17 +60,17 @@ ancestor [] h k v w = zero
 ancestor (b ∷ bs) h k v w =
     if is_branch v b.0
     then (if in_region b.1.region h k
-          then (if is_branch w b.0
-                then (if nat_le b.1.initial (min v.timestamp w.timestamp)
-                      then record { branch = Some b.0; timestamp = min v.timestamp w.timestamp }
-                      else ancestor bs h k (origin_at b.1 h k) (origin_at b.1 h k))
-                else ancestor bs h k (origin_at b.1 h k) w)
-          else zero)
+    then (if is_branch w b.0
+    then (if nat_le b.1.initial (min v.timestamp w.timestamp)
+    then record { branch = Some b.0; timestamp = min v.timestamp w.timestamp }
+    else ancestor bs h k (origin_at b.1 h k) (origin_at b.1 h k))
+    else ancestor bs h k (origin_at b.1 h k) w)
+    else zero)
     else (if is_branch w b.0
-          then (if in_region b.1.region h k
-                then ancestor bs h k v (origin_at b.1 h k)
-                else zero)
-          else ancestor bs h k v w)
+    then (if in_region b.1.region h k
+    then ancestor bs h k v (origin_at b.1 h k)
+    else zero)
+    else ancestor bs h k v w)
 
 -- the whole of a branch, as far as timestamps go
 abbrev pub whole : Id → Version

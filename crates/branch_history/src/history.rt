@@ -197,7 +197,13 @@ fn step_back(
 }
 
 /// Whether a point lies on the path of a version at a key that has this hash.
-fn is_on(branches: &[(Id, BranchBirth)], hash: u8, key: &Key, end: &Version, point: &Version) -> bool
+fn is_on(
+    branches: &[(Id, BranchBirth)],
+    hash: u8,
+    key: &Key,
+    end: &Version,
+    point: &Version,
+) -> bool
     ensures { result ≡ is_on branches.now hash key.now end.now point.now }
 {
     let mut last = *end;
@@ -266,7 +272,8 @@ fn is_own(branch: &(Id, BranchBirth), last: &Version, point: &Version) -> bool
     ensures { result ≡ (is_branch point.now branch.now.0
         && (nat_le branch.now.1.initial point.now.timestamp && nat_le point.now.timestamp last.now.timestamp)) }
 {
-    point.is_of(&branch.0) && (branch.1.initial <= point.timestamp && point.timestamp <= last.timestamp)
+    point.is_of(&branch.0)
+        && (branch.1.initial <= point.timestamp && point.timestamp <= last.timestamp)
 }
 
 /// The version at a key that has this hash, and the zero version where there is none.

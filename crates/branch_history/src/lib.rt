@@ -6,10 +6,14 @@
 #![tactic(auto)]
 
 pub use history::{AddRefused, BranchBirth, History};
-pub use laws::{a_whole_branch_has_its_versions, ancestors_are_last, paths_are_ordered, paths_grow, paths_stay};
+pub use laws::{
+    a_whole_branch_has_its_versions, ancestors_are_last, paths_are_ordered, paths_grow, paths_stay,
+};
 pub use version::Version;
 
 pub mod history;
 pub mod laws;
+#[cfg(test)]
+mod tests;
 pub mod version;
 pub mod walk;

@@ -9,7 +9,7 @@ pub returns-clause-at : goal.returns-clause-at
 returns-clause-at c h k =
     let past : length c.args.branches.now ≤ c.loop-branch.branch-index = omega arith in
     zip_everywhere c.loop-branch.walks c.loop-branch.walks c.in_ok-ends.ends ended h k (subst (λ m. IsCanonical m) c.walks-2.view_is c.walks-2.invariant) refl
-        (c.in_ok-ends.ensures.at h k) (c.in_ok-ends.ensures.beyond h k)
+    (c.in_ok-ends.ensures.at h k) (c.in_ok-ends.ensures.beyond h k)
     ∙ ended_at h k (value_at c.loop-branch.walks.pieces h k)
     ∙ ap (λ bs. walked_at bs h k (value_at c.loop-branch.walks.pieces h k)) (sym (drop_all c.loop-branch.branch-index c.args.branches.now past))
     ∙ c.loop-branch.invariant.at h k

@@ -9,5 +9,5 @@ invariant-loop-branch l = record {
   hashes : l.walks.hashes ≡ l.initial.walks.hashes;
   rest : HasHashes (drop l.branch-index l.branches) l.walks.hashes;
   at : (h : ℕ) (k : List ℕ) → walked_at (drop l.branch-index l.branches) h k (value_at l.walks.pieces h k)
-      ≡ walked_at l.branches h k (value_at l.initial.walks.pieces h k)
+      ≡ walked_at l.branches h k (value_at l.initial.walks.pieces h k);
 }

@@ -9,5 +9,5 @@ returns-clause-at c h k =
     c.in_ok-ends.ensures.at h k
     ∙ ap (λ bs. walked_at bs h k (value_at c.in_ok-walks.walks.pieces h k)) (c.deref.ensures.value ∙ c.self.view_is)
     ∙ ap (walked_at c.args.self.now h k)
-        (zip_everywhere c.args.a.now c.args.b.now c.in_ok-walks.walks started h k c.hashes-hashes.ensures.canonical refl (c.in_ok-walks.ensures.at h k) (c.in_ok-walks.ensures.beyond h k))
+    (zip_everywhere c.args.a.now c.args.b.now c.in_ok-walks.walks started h k c.hashes-hashes.ensures.canonical refl (c.in_ok-walks.ensures.at h k) (c.in_ok-walks.ensures.beyond h k))
     ∙ started_at c.args.self.now h k (value_at c.args.a.now.pieces h k) (value_at c.args.b.now.pieces h k)
