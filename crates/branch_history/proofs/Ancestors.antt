@@ -1,13 +1,13 @@
 -- The common ancestor is the last point on both paths.
-use Rattle.std.proofs.Common.{◌≡◌, ℕ, ◌<◌, ◌≤◌, Bool, true, false, cond, ◌&&◌, nat_le, min, List, [], ◌∷◌, Option, Some, None, inl, inr, refl, sym, ap, ap₂, ◌∙◌, subst, arith}
-use Rattle.std.proofs.lemmas.Bool.{both_ways, and_parts, leb-true, leb-false}
+use Rattle.std.proofs.Common.{◌≡◌, ℕ, ◌<◌, ◌≤◌, true, false, cond, nat_le, min, List, [], ◌∷◌, Some, refl, sym, ◌∙◌, arith}
+use Rattle.std.proofs.lemmas.Bool.{both_ways, leb-true, leb-false}
 use Rattle.region_map.specs.declared.id.Id.{Id}
 use Rattle.region_map.specs.Regions.{in_region}
 use Rattle.branch_history.specs.declared.version.Version.{Version}
 use Rattle.branch_history.specs.declared.history.BranchBirth.{BranchBirth}
-use Rattle.branch_history.specs.Paths.{Branches, branch_is, is_branch, is_zero, zero, origin_at, is_on, ancestor, whole}
-use Rattle.branch_history.specs.Histories.{knows, knows_branch, IsHistory}
-use Rattle.branch_history.proofs.PathLaws.{Part, Other, Own, Older, Outside, id_self, zero_is, other_is, inside_is, outside_is, own_on, older_on, part, zero_on, on_zero, older_not_new, raise, on_self, on_trans, on_antisym, on_forward}
+use Rattle.branch_history.specs.Paths.{Branches, is_branch, zero, origin_at, is_on, ancestor, whole}
+use Rattle.branch_history.specs.Histories.{IsHistory}
+use Rattle.branch_history.proofs.PathLaws.{Other, Own, Older, Outside, id_self, other_is, outside_is, own_on, older_on, part, zero_on, on_zero, older_not_new, raise, on_self, on_antisym, on_forward}
 
 -- a point on both paths, of which every point on both is on its path
 pub record IsLast (bs : Branches) (h : ℕ) (k : List ℕ) (v w a : Version) : Type 0 where

@@ -1,6 +1,7 @@
 -- The walk of two versions ends at their last common point.
-use Rattle.std.proofs.Common.{◌≡◌, ℕ, ◌<◌, ◌≤◌, Bool, true, false, cond, ◌&&◌, ◌||◌, nat_lt, nat_le, min, List, [], ◌∷◌, drop, Option, Some, None, inl, inr, refl, sym, ap, ap₂, ◌∙◌, subst}
-use Rattle.std.proofs.lemmas.Bool.{cases_lt, lt-ltb}
+use Rattle.std.proofs.Common.{◌≡◌, ℕ, ◌<◌, ◌≤◌, Bool, true, false, cond, ◌&&◌, ◌||◌, nat_lt, nat_le, min, List, [], ◌∷◌, Option, Some, None, inl, inr, refl, sym, ap, ◌∙◌, subst}
+use Rattle.std.proofs.lemmas.Bool.{cases_lt, lt-ltb, or_parts}
+use Rattle.std.specs.List.{list_any}
 use Rattle.region_map.specs.declared.id.Id.{Id}
 use Rattle.region_map.specs.declared.region.Region.{Region}
 use Rattle.region_map.specs.Regions.{in_region}
@@ -10,8 +11,8 @@ use Rattle.branch_history.specs.declared.version.Version.{Version}
 use Rattle.branch_history.specs.declared.walk.Walk.{Walk}
 use Rattle.branch_history.specs.declared.walk.Walk.TheVariants.{Going, At}
 use Rattle.branch_history.specs.declared.history.BranchBirth.{BranchBirth}
-use Rattle.branch_history.specs.Paths.{Branches, is_branch, zero, or_zero, origin_at, ancestor, whole, both_at}
-use Rattle.branch_history.specs.Walks.{origin_in, met, stepped, finished, walked, started, aimed, within, on, ended, walked_at}
+use Rattle.branch_history.specs.Paths.{Branches, is_branch, zero, or_zero, ancestor, whole, both_at}
+use Rattle.branch_history.specs.Walks.{origin_in, met, stands_on, stepped, walked, started, aimed, within, on, ended, walked_at}
 
 pub walked_stays : (bs : Branches) (h : ℕ) (k : List ℕ) (x : Version) → walked bs h k (At x) ≡ x
 walked_stays [] h k x = refl
@@ -99,4 +100,19 @@ step_at b walks new here origins copy n h k c en ec eh at_here at_origins at bey
           (at_here ∙ ap (λ x. cond (x && in_region copy h k) (Some true) None) (lt-ltb h n i) ∙ ap (λ x. cond (in_region x h k) (Some true) None) ec)
           ∙ within_by (in_region b.1.region h k) (value_at b.1.origin.pieces h k))
       | inr ge ↦ beyond ge ∙ sym (ap (λ x. on b.0 b.1.initial x (origin_in b.1 h k)) (none_beyond walks h k c ge))
+    ]
+
+-- a branch that no walk stands on changes none
+stays : (id : Id) (initial : ℕ) (walk : Walk) (o : Option (Option Version)) → stands_on walk id ≡ false → stepped id initial walk o ≡ walk
+stays id initial (At x) o e = refl
+stays id initial (Going v w) o e = ap (λ c. cond c (met id initial v w (is_branch v id) (is_branch w id) o) (Going v w)) e
+
+pub all_stay : (id : Id) (initial : ℕ) (ps : List (Region × Walk)) (o : Option (Option Version)) (h : ℕ) (k : List ℕ) → list_any (λ p. stands_on p.1 id) ps ≡ false
+    → value_at ps h k ≡ on id initial (value_at ps h k) o
+all_stay id initial [] o h k e = refl
+all_stay id initial (p ∷ ps) o h k e =
+    let parts = or_parts (stands_on p.1 id) (list_any (λ p. stands_on p.1 id) ps) e in
+    elim (in_region p.0 h k) as (λ c. cond c (Some p.1) (value_at ps h k) ≡ on id initial (cond c (Some p.1) (value_at ps h k)) o) [
+      | true ↦ ap Some (sym (stays id initial p.1 o parts.0))
+      | false ↦ all_stay id initial ps o h k parts.1
     ]

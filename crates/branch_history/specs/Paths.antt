@@ -1,5 +1,5 @@
 -- The path of a version at a pair of a hash and a byte list.
-use Rattle.std.specs.Prelude.{ℕ, Bool, true, false, ◌&&◌, ◌==◌, not, List, [], ◌∷◌, nat_lt, nat_le, min, Option, Some, None, if◌then◌else◌}
+use Rattle.std.specs.Prelude.{ℕ, Bool, true, false, ◌&&◌, ◌==◌, List, [], ◌∷◌, nat_le, min, Option, Some, None, if◌then◌else◌}
 use Rattle.region_map.specs.declared.id.Id.{Id}
 use Rattle.region_map.specs.Regions.{in_region}
 use Rattle.region_map.specs.Maps.{value_at}

@@ -1,5 +1,5 @@
 -- How two versions are walked back to their last common point, one branch after the other.
-use Rattle.std.specs.Prelude.{ℕ, Bool, true, false, ◌&&◌, ◌||◌, not, List, [], ◌∷◌, nat_le, min, Option, Some, None, if◌then◌else◌}
+use Rattle.std.specs.Prelude.{ℕ, Bool, false, ◌&&◌, ◌||◌, List, [], ◌∷◌, nat_le, min, Option, Some, None, if◌then◌else◌}
 use Rattle.region_map.specs.declared.id.Id.{Id}
 use Rattle.region_map.specs.Regions.{in_region}
 use Rattle.region_map.specs.Maps.{value_at}
@@ -20,6 +20,11 @@ met id initial v w a b (Some origin) =
     if (a && b) && nat_le initial (min v.timestamp w.timestamp)
     then At (record { branch = Some id; timestamp = min v.timestamp w.timestamp })
     else Going (if a then or_zero origin else v) (if b then or_zero origin else w)
+
+-- whether one of the two versions is of a branch
+abbrev pub stands_on : Walk → Id → Bool
+stands_on (At x) id = false
+stands_on (Going v w) id = is_branch v id || is_branch w id
 
 abbrev pub stepped : Id → ℕ → Walk → Option (Option Version) → Walk
 stepped id initial (At x) origin = At x

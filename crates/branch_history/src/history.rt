@@ -1,10 +1,11 @@
 //! The branches that are known, and what their births say of paths.
 ghost use Rattle.std.specs.Prelude.{◌≡◌, ◌↔◌, ℕ, ◌&&◌, not, nat_le, List, [], ◌∷◌, IsTrue, IfOk, OnOk, OnErr, IsErrOf};
+ghost use Rattle.std.specs.List.{list_any};
 ghost use Rattle.std.specs.Option.{option_copied};
 ghost use Rattle.region_map.specs.Keys.{hash_of};
 ghost use Rattle.region_map.specs.Maps.{value_at};
 ghost use Rattle.branch_history.specs.Paths.{is_on, is_branch, or_zero, ancestor, whole, both_at};
-ghost use Rattle.branch_history.specs.Walks.{on, origin_in, walked_at};
+ghost use Rattle.branch_history.specs.Walks.{on, origin_in, stands_on, walked_at};
 ghost use Rattle.branch_history.specs.Histories.{birth_of, knows, knows_branch, knows_origins, HasHashes, hashes_of, IsHistory};
 
 use crate::Version;
@@ -167,7 +168,7 @@ fn walk_back(
 {
     let mut walks = walks;
     for branch in branches {
-        walks = step_back(alloc, branch, &walks)?;
+        walks = step_back(alloc, branch, walks)?;
     }
     let ends = walks.zip(alloc, &walks, &End)?;
     Ok(ends)
@@ -177,14 +178,17 @@ fn walk_back(
 fn step_back(
     alloc: Global,
     branch: &(Id, BranchBirth),
-    walks: &RegionMap<Walk>,
+    walks: RegionMap<Walk>,
 ) -> Result<RegionMap<Walk>, OutOfMemory>
-    requires { branch.now.1.origin.hashes ≡ walks.now.hashes }
-    ensures hashes { IfOk result (λ m. m.hashes ≡ walks.now.hashes) }
+    requires { branch.now.1.origin.hashes ≡ walks.hashes }
+    ensures hashes { IfOk result (λ m. m.hashes ≡ walks.hashes) }
     ensures at { IfOk result (λ m. (h : ℕ) (k : List ℕ) → value_at m.pieces h k
-        ≡ on branch.now.0 branch.now.1.initial (value_at walks.now.pieces h k) (origin_in branch.now.1 h k)) }
+        ≡ on branch.now.0 branch.now.1.initial (value_at walks.pieces h k) (origin_in branch.now.1 h k)) }
 {
     let hashes = walks.hashes();
+    if !has_walks_on(walks.pieces(), &branch.0) {
+        return Ok(walks);
+    }
     let region = branch.1.region.copy(alloc)?;
     let here = RegionMap::constant(alloc, region, hashes, true)?;
     let origins = here.zip(alloc, &branch.1.origin, &Within)?;
@@ -194,6 +198,18 @@ fn step_back(
     };
     let new = walks.zip(alloc, &origins, &step)?;
     Ok(new)
+}
+
+/// Whether a walk stands on a branch anywhere.
+fn has_walks_on(pieces: &[(Region, Walk)], id: &Id) -> bool
+    ensures { result ≡ list_any (λ p. stands_on p.1 id.now) pieces.now }
+{
+    for piece in pieces {
+        if piece.1.stands_on(id) {
+            return true;
+        }
+    }
+    false
 }
 
 /// Whether a point lies on the path of a version at a key that has this hash.

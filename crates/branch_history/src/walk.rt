@@ -2,7 +2,7 @@
 ghost use Rattle.std.specs.Prelude.{◌≡◌, if◌then◌else◌};
 ghost use Rattle.std.specs.Option.{option_copied};
 ghost use Rattle.branch_history.specs.Paths.{or_zero};
-ghost use Rattle.branch_history.specs.Walks.{stepped, met, finished};
+ghost use Rattle.branch_history.specs.Walks.{stands_on, stepped, met, finished};
 
 use crate::Version;
 use region_map::{Combine, Id, MapValue, OutOfMemory};
@@ -43,6 +43,16 @@ impl Walk {
                     Walk::Going(*v, *w)
                 }
             }
+        }
+    }
+
+    /// Whether one of the two versions is of this branch.
+    pub fn stands_on(&self, id: &Id) -> bool
+        ensures { result ≡ stands_on self.now id.now }
+    {
+        match self {
+            Walk::At(_) => false,
+            Walk::Going(v, w) => v.is_of(id) || w.is_of(id),
         }
     }
 

@@ -1,4 +1,4 @@
-use Rattle.std.proofs.Common.{◌≡◌, ◌∙◌, ap, refl}
+use Rattle.std.proofs.Common.{◌∙◌, ap, refl}
 use Rattle.region_map.specs.Maps.{value_at}
 use Rattle.branch_history.specs.Walks.{aimed, walked_at}
 use Rattle.branch_history.proofs.Walked.{zip_everywhere, aimed_at}
