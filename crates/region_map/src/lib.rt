@@ -7,17 +7,25 @@
 pub use hash::hash_of;
 pub use id::{Id, NodeId};
 pub use key::{Key, KeyLength};
+pub use map::{RegionMap, same_maps};
 pub use memory::OutOfMemory;
 pub use node_set::{Members, NodeSet, majorities_meet, majority};
 pub use region::Region;
 pub use step_refused::StepRefused;
+pub use value::{Combine, MapValue};
 
+pub mod band;
+pub mod bound;
 pub mod hash;
 pub mod id;
 pub mod key;
+pub mod map;
 pub mod node_set;
 pub mod region;
+pub mod row;
 pub mod step_refused;
+pub mod stretch;
+pub mod value;
 
 /// The most nodes that a table has.
 pub const MAX_NODES: u8 = 7;
@@ -27,3 +35,6 @@ pub const MAX_KEY_BYTES: usize = 64;
 
 /// The first number that no life, term, timestamp, id counter, log index or part number reaches.
 pub const NUMBERS_END: u64 = 1 << 62;
+
+#[cfg(test)]
+mod tests;

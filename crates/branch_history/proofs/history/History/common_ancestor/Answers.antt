@@ -1,0 +1,13 @@
+use Rattle.std.proofs.Common.{◌∙◌, ap, refl}
+use Rattle.region_map.specs.Maps.{value_at}
+use Rattle.branch_history.specs.Walks.{started, walked_at}
+use Rattle.branch_history.proofs.Walked.{zip_everywhere, started_at}
+use Rattle.branch_history.proofs.history.History.common_ancestor.Goals as goal
+
+pub returns-clause-at : goal.returns-clause-at
+returns-clause-at c h k =
+    c.in_ok-ends.ensures.at h k
+    ∙ ap (λ bs. walked_at bs h k (value_at c.in_ok-walks.walks.pieces h k)) (c.deref.ensures.value ∙ c.self.view_is)
+    ∙ ap (walked_at c.args.self.now h k)
+    (zip_everywhere c.args.a.now c.args.b.now c.in_ok-walks.walks started h k c.hashes-hashes.ensures.canonical refl (c.in_ok-walks.ensures.at h k) (c.in_ok-walks.ensures.beyond h k))
+    ∙ started_at c.args.self.now h k (value_at c.args.a.now.pieces h k) (value_at c.args.b.now.pieces h k)

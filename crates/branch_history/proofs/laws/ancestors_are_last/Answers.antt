@@ -1,0 +1,10 @@
+use Rattle.branch_history.proofs.Ancestors.{ancestor_last, projects_once}
+use Rattle.branch_history.proofs.laws.ancestors_are_last.Goals as goal
+
+pub returns : goal.returns
+returns c = record {
+  first = λ bs h k v w i. (ancestor_last bs h k v w i).first;
+  second = λ bs h k v w i. (ancestor_last bs h k v w i).second;
+  last = λ bs h k v w x i. (ancestor_last bs h k v w i).last x;
+  once = projects_once;
+}

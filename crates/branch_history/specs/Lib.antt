@@ -1,0 +1,3 @@
+pub mod Histories
+pub mod Paths
+pub mod Walks
