@@ -68,7 +68,8 @@ fn merge<E: RaftEntry>(
     prev_index: u64,
     entries: Log<E>,
 ) -> Result<(), OutOfMemory>
-    requires { prev_index ≤ length log.old }
+    requires within { prev_index ≤ length log.old }
+    requires small { prev_index < 2 ^ 63 }
     ensures ok { OnOk result (log.new ≡ take prev_index log.old ++ merged (drop prev_index log.old) entries) }
     ensures err { OnErr result (log.new ≡ log.old) }
 {
