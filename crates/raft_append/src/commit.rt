@@ -1,5 +1,5 @@
 //! What a majority has of a leader's log.
-ghost use Rattle.std.specs.Prelude.{◌≡◌, length};
+ghost use Rattle.std.specs.Prelude.{◌≡◌, ◌≤◌, length};
 ghost use Rattle.raft_append.specs.Commit.{matched_by, is_matched, is_decided, decided};
 
 use crate::peers::Peers;
@@ -10,7 +10,8 @@ use region_map::NodeId;
 /// matched, and 0 where there is none.
 #[tactic(auto, using(crate::proofs::Greatest::greatest_yes, crate::proofs::Greatest::greatest_no))]
 pub fn decided<E>(votes: &VoteNode, log: &Log<E>, peers: &Peers) -> u64
-    ensures { result ≡ decided votes.now log.now peers.now }
+    ensures decided { result ≡ decided votes.now log.now peers.now }
+    ensures within { result ≤ length log.now }
 {
     let mut index = log.len();
     while index > 0 && !is_decided(votes, log, peers, index) {

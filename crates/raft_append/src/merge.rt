@@ -14,7 +14,8 @@ pub struct Answer {
 }
 
 /// Takes the entries that a leader has behind `prev_index`, where its entry has the term
-/// `prev_term`, and raises the view as far as the leader's `commit` and these entries reach.
+/// `prev_term`, and raises the view as far as the leader's `commit` and these entries reach. What the
+/// view had reached stays.
 pub fn take_entries<E: RaftEntry>(
     log: &mut Log<E>,
     view: &mut u64,
@@ -23,11 +24,16 @@ pub fn take_entries<E: RaftEntry>(
     entries: Log<E>,
     commit: u64,
 ) -> Result<Answer, StepRefused>
+    requires within { view.old ≤ length log.old }
+    requires agrees { IsTrue (agrees_to_view log.old view.old prev_index entries) }
     ensures ok { IfOk result (λ a. record { log = log.new; view = view.new; ok = a.ok; upto = a.upto } ≡ taken log.old view.old prev_index prev_term entries commit) }
     ensures numbers { IsErrOf result StepRefused.NumbersEnd
         ↔ IsTrue (fits log.old prev_index prev_term && nat_le (2 ^ 62) (prev_index + length entries)) }
     ensures log { OnErr result (log.new ≡ log.old) }
     ensures view { OnErr result (view.new ≡ view.old) }
+    ensures within { view.new ≤ length log.new }
+    ensures rises { view.old ≤ view.new }
+    ensures keeps { take view.old log.new ≡ take view.old log.old }
 {
     if !fits(log, prev_index, prev_term) {
         return Ok(Answer {

@@ -63,12 +63,18 @@ elected noop s votes sent =
 abbrev pub ends_at_win : {E : Type 0} → RaftState E → VoteState → Bool
 ends_at_win s votes = wins s.votes votes && nat_le (2 ^ 62) (length s.log + 1)
 
--- a leader sends its log; another node may stand for election, or ask again
+-- a node that does not lead may stand for election, or ask again
+abbrev pub elect_row : {E : Type 0} → E → RaftState E → List ℕ → RaftStepped E
+elect_row noop s unseen =
+    let r = vote_tick s.votes unseen in
+    elected noop s r.node (asks r.node.term (last_term s.log) (length s.log) r.asked)
+
+-- a leader sends its log
 abbrev pub tick_row : {E : Type 0} → E → RaftState E → List ℕ → RaftStepped E
 tick_row noop s unseen =
     if is_leader s.votes.role
     then record { node = s; sent = append_all s }
-    else (let r = vote_tick s.votes unseen in elected noop s r.node (asks r.node.term (last_term s.log) (length s.log) r.asked))
+    else elect_row noop s unseen
 
 abbrev pub ask_row : {E : Type 0} → RaftState E → NodeId → ℕ → ℕ → ℕ → RaftStepped E
 ask_row s from term last_term_asked last_index =
@@ -133,9 +139,12 @@ deliver_ends s from (AppendSay term ok upto) =
     let t = take_term s.votes term in
     is_leader t.role && (t.term == term) && ends_progress (progress_at s.peers from.0) (length s.log) ok upto
 
+abbrev pub elect_ends : {E : Type 0} → RaftState E → List ℕ → Bool
+elect_ends s unseen = ends_terms s.votes unseen || ends_at_win s (vote_tick s.votes unseen).node
+
 -- the next term or an index would be no number
 abbrev pub ends_numbers : {E : Type 0} → RaftState E → RaftInput E → Bool
-ends_numbers s (Tick unseen) = not (is_leader s.votes.role) && (ends_terms s.votes unseen || ends_at_win s (vote_tick s.votes unseen).node)
+ends_numbers s (Tick unseen) = not (is_leader s.votes.role) && elect_ends s unseen
 ends_numbers s (Deliver from message) = deliver_ends s from message
 
 -- an Append of the node's term or a greater one agrees with its log up to its view

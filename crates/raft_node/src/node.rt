@@ -1,9 +1,10 @@
 //! A node that keeps a log with others.
-ghost use Rattle.std.specs.Prelude.{◌≡◌, ◌+◌, ◌<◌, ◌≤◌, ◌↔◌, ℕ, [], ◌∷◌, ◌++◌, length, take, true, false, IsTrue, IsFalse, IfOk, IfSome, OnOk, OnErr, IsErrOf, ◌⊎◌};
+ghost use Rattle.std.specs.Prelude.{◌≡◌, ◌+◌, ◌<◌, ◌≤◌, ◌↔◌, ℕ, [], ◌∷◌, ◌++◌, length, take, true, false, IsTrue, IsFalse, IfOk, IfSome, OnOk, OnErr, IsErrOf, Err, nat_lt, nat_le, ◌&&◌, ◌||◌, ◌^◌};
+ghost use Rattle.raft_append.specs.Merge.{fits, agrees_to_view};
 ghost use Rattle.raft_vote.specs.Log.{last_term};
-ghost use Rattle.raft_vote.specs.Rows.{is_leader, wins, vote_said, all_nodes};
+ghost use Rattle.raft_vote.specs.Rows.{asks, is_leader, vote_said, all_nodes};
 ghost use Rattle.raft_node.specs.State.{begun, kept_of};
-ghost use Rattle.raft_node.specs.Rows.{append_to, append_all, won, with_entry, elected, ends_at_win, tick_row, ask_row, vote_row, append_row, say_row, deliver_row, deliver_ends, input_row, advanced, raft_step, proposed, is_full, ends_numbers, keeps_view, is_well_formed};
+ghost use Rattle.raft_node.specs.Rows.{append_to, append_all, won, with_entry, elect_row, elect_ends, ends_at_win, tick_row, ask_row, vote_row, append_row, say_row, deliver_row, deliver_ends, input_row, advanced, raft_step, proposed, is_full, ends_numbers, keeps_view, is_well_formed};
 ghost use Rattle.raft_vote.specs.declared.message.RaftMessage.TheVariants.{VoteAsk, VoteSay, Append, AppendSay};
 ghost use Rattle.raft_node.specs.declared.input.RaftInput.TheVariants.{Tick, Deliver};
 
@@ -213,6 +214,267 @@ impl<E: RaftEntry> RaftNode<E> {
         }
         self.append(E::noop())?;
         Ok(())
+    }
+
+    /// Begins to lead, and adds what it then sends.
+    fn begin_to_lead(
+        &mut self,
+        alloc: Global,
+        sent: &mut Vec<(NodeId, RaftMessage<E>)>,
+    ) -> Result<(), OutOfMemory>
+        requires { length self.old.log + 1 < NUMBERS_END }
+        ensures node { OnOk result (self.new ≡ won E.noop_entry self.old) }
+        ensures sent { OnOk result (sent.new.items ≡ sent.old.items ++ append_all (won E.noop_entry self.old)) }
+    {
+        self.win()?;
+        let mut appends = self.append_to_all(alloc)?;
+        sent.append(&mut appends)?;
+        Ok(())
+    }
+
+    fn tick(
+        &mut self,
+        alloc: Global,
+        unseen: &NodeSet,
+    ) -> Result<Vec<(NodeId, RaftMessage<E>)>, StepRefused>
+        ensures ok { IfOk result (λ sent. record { node = self.new; sent = sent.items } ≡ tick_row E.noop_entry self.old unseen.now) }
+        ensures numbers { IsErrOf result StepRefused.NumbersEnd ↔ IsTrue (ends_numbers self.old (Tick unseen.now)) }
+    {
+        if self.votes.is_leader() {
+            return Ok(self.append_to_all(alloc)?);
+        }
+        self.elect(alloc, unseen)
+    }
+
+    /// A node that does not lead may stand for election, or ask again.
+    fn elect(
+        &mut self,
+        alloc: Global,
+        unseen: &NodeSet,
+    ) -> Result<Vec<(NodeId, RaftMessage<E>)>, StepRefused>
+        requires { IsFalse (is_leader self.old.votes.role) }
+        ensures ok { IfOk result (λ sent. record { node = self.new; sent = sent.items } ≡ elect_row E.noop_entry self.old unseen.now) }
+        ensures numbers { IsErrOf result StepRefused.NumbersEnd ↔ IsTrue (elect_ends self.old unseen.now) }
+    {
+        let asked = self.votes.tick(unseen)?;
+        if !self.votes.is_leader() {
+            return Ok(self.ask(alloc, &asked)?);
+        }
+        if self.log.len() + 1 >= NUMBERS_END {
+            return Err(StepRefused::NumbersEnd);
+        }
+        let mut sent = self.ask(alloc, &asked)?;
+        self.begin_to_lead(alloc, &mut sent)?;
+        Ok(sent)
+    }
+
+    /// Asks these nodes for their votes in its term.
+    fn ask(
+        &self,
+        alloc: Global,
+        to: &NodeSet,
+    ) -> Result<Vec<(NodeId, RaftMessage<E>)>, OutOfMemory>
+        ensures { IfOk result (λ sent. sent.items ≡ asks self.now.votes.term (last_term self.now.log) (length self.now.log) to.now) }
+    {
+        asks(alloc, self.votes.term(), self.log.last_term(), self.log.len(), to)
+    }
+
+    /// It is asked for its vote.
+    fn asked(
+        &mut self,
+        from: NodeId,
+        term: u64,
+        last_term: u64,
+        last_index: u64,
+    ) -> RaftMessage<E>
+        ensures { record { node = self.new; sent = (from, result) ∷ [] } ≡ ask_row self.old from term last_term last_index }
+    {
+        let (own_term, own_index) = (self.log.last_term(), self.log.len());
+        let granted = self
+            .votes
+            .asked(from, term, last_term, last_index, own_term, own_index);
+        RaftMessage::VoteSay {
+            term: self.votes.term(),
+            granted,
+        }
+    }
+
+    /// It is told of a vote.
+    fn told(
+        &mut self,
+        alloc: Global,
+        from: NodeId,
+        term: u64,
+        granted: bool,
+    ) -> Result<Vec<(NodeId, RaftMessage<E>)>, StepRefused>
+        requires { from.0 < 64 }
+        ensures ok { IfOk result (λ sent. record { node = self.new; sent = sent.items } ≡ vote_row E.noop_entry self.old from term granted) }
+        ensures numbers { IsErrOf result StepRefused.NumbersEnd ↔ IsTrue (ends_at_win self.old (vote_said self.old.votes from term granted)) }
+    {
+        let led = self.votes.is_leader();
+        self.votes.told(from, term, granted);
+        let won = !led && self.votes.is_leader();
+        if won && self.log.len() + 1 >= NUMBERS_END {
+            return Err(StepRefused::NumbersEnd);
+        }
+        let mut sent = Vec::new(alloc);
+        if won {
+            self.begin_to_lead(alloc, &mut sent)?;
+        }
+        Ok(sent)
+    }
+
+    // ---- appends that come
+
+    /// Takes the entries of a leader that has no smaller term, and answers.
+    fn take_append(
+        &mut self,
+        from: NodeId,
+        term: u64,
+        prev_index: u64,
+        prev_term: u64,
+        entries: Log<E>,
+        commit: u64,
+    ) -> Result<RaftMessage<E>, StepRefused>
+        requires { IsTrue (nat_lt term self.old.votes.term || agrees_to_view self.old.log self.old.view prev_index entries) }
+        ensures ok { IfOk result (λ answer. record { node = self.new; sent = (from, answer) ∷ [] } ≡ append_row self.old from term prev_index prev_term entries commit) }
+        ensures numbers { IsErrOf result StepRefused.NumbersEnd
+            ↔ IsTrue (nat_le self.old.votes.term term && fits self.old.log prev_index prev_term && nat_le (2 ^ 62) (prev_index + length entries)) }
+    {
+        if term < self.votes.term() {
+            return Ok(RaftMessage::AppendSay {
+                term: self.votes.term(),
+                ok: false,
+                upto: 0,
+            });
+        }
+        self.votes.take_term(term);
+        self.votes.follow(from);
+        let answer = take_entries(
+            &mut self.log,
+            &mut self.view,
+            prev_index,
+            prev_term,
+            entries,
+            commit,
+        )?;
+        Ok(RaftMessage::AppendSay {
+            term: self.votes.term(),
+            ok: answer.ok,
+            upto: answer.upto,
+        })
+    }
+
+    /// A leader learns how far a node's log agrees.
+    fn take_say(
+        &mut self,
+        from: NodeId,
+        term: u64,
+        ok: bool,
+        upto: u64,
+    ) -> Result<(), StepRefused>
+        ensures ok { OnOk result (self.new ≡ say_row self.old from term ok upto) }
+        ensures numbers { IsErrOf result StepRefused.NumbersEnd ↔ IsTrue (deliver_ends self.old from (AppendSay term ok upto)) }
+    {
+        self.votes.take_term(term);
+        if !self.votes.is_leader() || self.votes.term() != term {
+            return Ok(());
+        }
+        let progress = self.peers.get(from).after(self.log.len(), ok, upto)?;
+        self.peers.set(from, progress);
+        Ok(())
+    }
+
+    // ---- a step
+
+    fn deliver(
+        &mut self,
+        alloc: Global,
+        from: NodeId,
+        message: RaftMessage<E>,
+    ) -> Result<Vec<(NodeId, RaftMessage<E>)>, StepRefused>
+        requires from { from.0 < 64 }
+        requires view { IsTrue (keeps_view self.old message) }
+        ensures ok { IfOk result (λ sent. record { node = self.new; sent = sent.items } ≡ deliver_row E.noop_entry self.old from message) }
+        ensures numbers { IsErrOf result StepRefused.NumbersEnd ↔ IsTrue (deliver_ends self.old from message) }
+    {
+        match message {
+            RaftMessage::VoteAsk {
+                term,
+                last_term,
+                last_index,
+            } => {
+                let mut sent = Vec::with_capacity(alloc, 1)?;
+                sent.push_reserved((from, self.asked(from, term, last_term, last_index)));
+                Ok(sent)
+            }
+            RaftMessage::VoteSay { term, granted } => self.told(alloc, from, term, granted),
+            RaftMessage::Append {
+                term,
+                prev_index,
+                prev_term,
+                entries,
+                commit,
+            } => {
+                let answer =
+                    self.take_append(from, term, prev_index, prev_term, entries, commit)?;
+                Ok(vec![in alloc; (from, answer)]?)
+            }
+            RaftMessage::AppendSay { term, ok, upto } => {
+                self.take_say(from, term, ok, upto)?;
+                Ok(Vec::new(alloc))
+            }
+        }
+    }
+
+    /// A leader acts on what a majority has, up to the last such entry of its own term.
+    fn advance(&mut self)
+        ensures { self.new ≡ advanced self.old }
+    {
+        if !self.votes.is_leader() {
+            return;
+        }
+        let decided = decided(&self.votes, &self.log, &self.peers);
+        self.view = self.view.max(decided);
+    }
+
+    /// Takes one step, and gives what it sends. After an error the node must not be used.
+    pub fn step(
+        &mut self,
+        alloc: Global,
+        input: RaftInput<E>,
+    ) -> Result<Vec<(NodeId, RaftMessage<E>)>, StepRefused>
+        requires { IsTrue (is_well_formed self.old input) }
+        ensures ok { IfOk result (λ sent. record { node = self.new; sent = sent.items } ≡ raft_step E.noop_entry self.old input) }
+        ensures numbers { IsErrOf result StepRefused.NumbersEnd ↔ IsTrue (ends_numbers self.old input) }
+    {
+        let _few = self.votes.nodes().len();
+        let sent = match input {
+            RaftInput::Tick { unseen } => self.tick(alloc, &unseen)?,
+            RaftInput::Deliver { from, message } => self.deliver(alloc, from, message)?,
+        };
+        self.advance();
+        Ok(sent)
+    }
+
+    /// Appends a change where it leads, and gives its index.
+    pub fn propose(&mut self, change: E) -> Result<u64, ProposeRefused<E>>
+        ensures ok { IfOk result (λ index. (self.new ≡ proposed self.old change) × (index ≡ length self.new.log)) }
+        ensures not_leader { (result ≡ Err (ProposeRefused.NotLeader change)) ↔ IsFalse (is_leader self.old.votes.role) }
+        ensures full { (result ≡ Err (ProposeRefused.LogFull change)) ↔ IsTrue (is_leader self.old.votes.role && is_full self.old.log) }
+        ensures err { OnErr result (self.new ≡ self.old) }
+    {
+        if !self.votes.is_leader() {
+            return Err(ProposeRefused::NotLeader(change));
+        }
+        if self.is_full() {
+            return Err(ProposeRefused::LogFull(change));
+        }
+        if self.append(change).is_err() {
+            return Err(ProposeRefused::OutOfMemory);
+        }
+        self.advance();
+        Ok(self.log.len())
     }
 }
 
