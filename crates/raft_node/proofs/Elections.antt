@@ -20,3 +20,11 @@ module _ {E : Type 0} (noop : E) (s : RaftState E) where
   elect_row_lost unseen r e lost =
       subst (λ (q : Asking). record { node = record s { votes = r.node }; sent = asks r.node.term (last_term s.log) (length s.log) r.asked } ≡ elected noop s q.node (asks q.node.term (last_term s.log) (length s.log) q.asked)) e
       (sym (elected_lost r.node (asks r.node.term (last_term s.log) (length s.log) r.asked) lost))
+
+  pub elect_ends_lost : (unseen : List ℕ) (r : Asking) → r ≡ vote_tick s.votes unseen → ends_terms s.votes unseen ≡ false → is_leader r.node.role ≡ false → elect_ends s unseen ≡ false
+  elect_ends_lost unseen r e goes_on lost =
+      subst (λ (q : Asking). (ends_terms s.votes unseen || ends_at_win s q.node) ≡ false) e
+      (rw goes_on (ends_at_win_lost r.node lost))
+    where
+      ends_at_win_lost : (votes : VoteState) → is_leader votes.role ≡ false → ends_at_win s votes ≡ false
+      ends_at_win_lost votes lost = grind (arith, nat_tests)
