@@ -1,2 +1,3 @@
-pub mod State
+pub mod Committed
 pub mod Rows
+pub mod State

@@ -3,6 +3,7 @@ ghost use Rattle.std.specs.Prelude.{◌≡◌, ◌+◌, ◌<◌, ◌≤◌, ◌�
 ghost use Rattle.raft_append.specs.Merge.{fits, agrees_to_view};
 ghost use Rattle.raft_vote.specs.Log.{last_term};
 ghost use Rattle.raft_vote.specs.Rows.{asks, is_leader, vote_said, all_nodes};
+ghost use Rattle.raft_node.specs.Committed.{KeepsCommitted};
 ghost use Rattle.raft_node.specs.State.{begun, kept_of};
 ghost use Rattle.raft_node.specs.Rows.{append_to, append_all, won, with_entry, elect_row, elect_ends, ends_at_win, tick_row, ask_row, vote_row, append_row, say_row, deliver_row, deliver_ends, input_row, advanced, raft_step, proposed, is_full, ends_numbers, keeps_view, is_well_formed};
 ghost use Rattle.raft_vote.specs.declared.message.RaftMessage.TheVariants.{VoteAsk, VoteSay, Append, AppendSay};
@@ -438,7 +439,30 @@ impl<E: RaftEntry> RaftNode<E> {
         self.view = self.view.max(decided);
     }
 
+    /// Takes one step, but for the leader's commit rule.
+    fn take_input(
+        &mut self,
+        alloc: Global,
+        input: RaftInput<E>,
+    ) -> Result<Vec<(NodeId, RaftMessage<E>)>, StepRefused>
+        requires { IsTrue (is_well_formed self.old input) }
+        ensures ok { IfOk result (λ sent. record { node = self.new; sent = sent.items } ≡ input_row E.noop_entry self.old input) }
+        ensures numbers { IsErrOf result StepRefused.NumbersEnd ↔ IsTrue (ends_numbers self.old input) }
+        ensures within { self.old.view ≤ length self.old.log }
+    {
+        let count = self.votes.nodes().len();
+        match input {
+            RaftInput::Tick { unseen } => self.tick(alloc, &unseen),
+            RaftInput::Deliver { from, message } => {
+                prove!(from.0 < count);
+                self.deliver(alloc, from, message)
+            }
+        }
+    }
+
     /// Takes one step, and gives what it sends. After an error the node must not be used.
+    ///
+    /// Each message of a run of such nodes may be given to it (`takes`).
     pub fn step(
         &mut self,
         alloc: Global,
@@ -447,12 +471,9 @@ impl<E: RaftEntry> RaftNode<E> {
         requires { IsTrue (is_well_formed self.old input) }
         ensures ok { IfOk result (λ sent. record { node = self.new; sent = sent.items } ≡ raft_step E.noop_entry self.old input) }
         ensures numbers { IsErrOf result StepRefused.NumbersEnd ↔ IsTrue (ends_numbers self.old input) }
+        ensures committed { OnOk result (KeepsCommitted self.old self.new) }
     {
-        let _few = self.votes.nodes().len();
-        let sent = match input {
-            RaftInput::Tick { unseen } => self.tick(alloc, &unseen)?,
-            RaftInput::Deliver { from, message } => self.deliver(alloc, from, message)?,
-        };
+        let sent = self.take_input(alloc, input)?;
         self.advance();
         Ok(sent)
     }
@@ -463,6 +484,7 @@ impl<E: RaftEntry> RaftNode<E> {
         ensures not_leader { (result ≡ Err (ProposeRefused.NotLeader change)) ↔ IsFalse (is_leader self.old.votes.role) }
         ensures full { (result ≡ Err (ProposeRefused.LogFull change)) ↔ IsTrue (is_leader self.old.votes.role && is_full self.old.log) }
         ensures err { OnErr result (self.new ≡ self.old) }
+        ensures committed { KeepsCommitted self.old self.new }
     {
         if !self.votes.is_leader() {
             return Err(ProposeRefused::NotLeader(change));
