@@ -9,6 +9,6 @@ pub merged_some : {E : Type 0} (own new : List (LogEntry E)) (prev same : ℕ) �
 merged_some own new prev same is some =
     subst (λ (n : ℕ). n ≢ length new → take (prev + n) own ++ drop n new ≡ take prev own ++ merged (drop prev own) new) (sym is)
     (λ differs.
-        let test = ne_eqb (agreeing (drop prev own) new) (length new) differs in
-        rw (test, take-add prev (agreeing (drop prev own) new) own, append_assoc))
+    let test = ne_eqb (agreeing (drop prev own) new) (length new) differs in
+    rw (test, take-add prev (agreeing (drop prev own) new) own, append_assoc))
     some

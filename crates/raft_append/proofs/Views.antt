@@ -1,5 +1,5 @@
 -- What a node acts on never goes back when its log takes entries.
-use Rattle.std.proofs.Common.{◌≡◌, ◌≢◌, ◌∙◌, ℕ, ◌+◌, ◌-◌, ◌≤◌, ◌==◌, Bool, true, false, min, max, List, ◌++◌, length, take, drop, refl, sym, ap, subst, arith, length-append, length-take, length-drop, nat_le, append_assoc, take-add, le_refl}
+use Rattle.std.proofs.Common.{◌≡◌, ◌∙◌, ℕ, ◌+◌, ◌-◌, ◌≤◌, ◌==◌, true, false, min, max, List, ◌++◌, length, take, drop, refl, sym, ap, subst, arith, length-append, length-take, length-drop, append_assoc, take-add, le_refl}
 use Rattle.std.proofs.lemmas.Bool.Decides.{nat_tests}
 use Rattle.std.proofs.lemmas.Bool.{cond_both, eqb-true, eqb-false, leb-true}
 use Rattle.std.proofs.lemmas.List.{take-append-drop, take-append-le, take-take}
@@ -29,11 +29,15 @@ module _ {E : Type 0} (log : List (LogEntry E)) (view prev : ℕ) (entries : Lis
       cond_both (same == length entries) own (take same own ++ drop same entries)
       (λ (m : List (LogEntry E)). (view ≤ length (take prev log ++ m)) × (prev + length entries ≤ length (take prev log ++ m)))
       (λ e.
-          let all = eqb-true same (length entries) e in
-          rw (take-append-drop prev log) (within, omega arith))
+      let all = eqb-true same (length entries) e in
+      rw (take-append-drop prev log) (within, omega arith))
       (λ e.
-          let some : same ≡ length entries → ⊥ = eqb-false same (length entries) e in
-          rw (joined_length log entries prev same fits s.0 s.1) (omega arith, omega arith))
+      let some : same ≡ length entries → ⊥ = eqb-false same (length entries) e in
+      rw (joined_length log entries prev same fits s.0 s.1) (omega arith, omega arith))
+
+  pub took_reaches : (new : List (LogEntry E)) → new ≡ take prev log ++ merged (drop prev log) entries → view ≤ length log → prev ≤ length log → agrees_to_view log view prev entries ≡ true → (view ≤ length new) × (prev + length entries ≤ length new)
+  took_reaches new e within fits agrees =
+      subst (λ (xs : List (LogEntry E)). (view ≤ length xs) × (prev + length entries ≤ length xs)) (sym e) (merged_reaches within fits agrees)
 
   -- up to the view it is as before
   pub merged_same : view ≤ length log → prev ≤ length log → agrees_to_view log view prev entries ≡ true → take view (take prev log ++ merged (drop prev log) entries) ≡ take view log
@@ -46,10 +50,13 @@ module _ {E : Type 0} (log : List (LogEntry E)) (view prev : ℕ) (entries : Lis
       (λ (m : List (LogEntry E)). take view (take prev log ++ m) ≡ take view log)
       (λ e. ap (take view) (take-append-drop prev log))
       (λ e.
-          let some : same ≡ length entries → ⊥ = eqb-false same (length entries) e in
-          let front : view ≤ length (take (prev + same) log) = rw length-take (omega arith) in
-          let seam : take prev log ++ (take same own ++ drop same entries) ≡ take (prev + same) log ++ drop same entries = rw (take-add prev same log, append_assoc) in
-          ap (take view) seam ∙ take-append-le view (take (prev + same) log) (drop same entries) front ∙ take-take view (prev + same) log (omega arith))
+      let some : same ≡ length entries → ⊥ = eqb-false same (length entries) e in
+      let front : view ≤ length (take (prev + same) log) = rw length-take (omega arith) in
+      let seam : take prev log ++ (take same own ++ drop same entries) ≡ take (prev + same) log ++ drop same entries = rw (take-add prev same log, append_assoc) in
+      ap (take view) seam ∙ take-append-le view (take (prev + same) log) (drop same entries) front ∙ take-take view (prev + same) log (omega arith))
+
+  pub took_same : (new : List (LogEntry E)) → new ≡ take prev log ++ merged (drop prev log) entries → view ≤ length log → prev ≤ length log → agrees_to_view log view prev entries ≡ true → take view new ≡ take view log
+  took_same new e within fits agrees = ap (take view) e ∙ merged_same within fits agrees
 
   fits_within : (term : ℕ) → fits log prev term ≡ true → prev ≤ length log
   fits_within term e = grind (arith, nat_tests)

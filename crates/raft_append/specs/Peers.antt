@@ -1,5 +1,5 @@
 -- What a leader knows of the other nodes, by their numbers.
-use Rattle.std.specs.Prelude.{ℕ, ◌+◌, ◌^◌, min, max, nat_le, Bool, ◌&&◌, if◌then◌else◌, List, length, replicate, slice_get, slice_set, unwrap_or}
+use Rattle.std.specs.Prelude.{ℕ, ◌+◌, ◌^◌, min, max, nat_le, Bool, ◌&&◌, if◌then◌else◌, List, length, replicate, slice_get, unwrap_or}
 use Rattle.raft_append.specs.declared.peers.Progress.{Progress}
 
 abbrev pub fresh : ℕ → Progress

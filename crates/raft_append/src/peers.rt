@@ -78,7 +78,11 @@ impl Progress {
         ensures numbers { OnErr result (result ≡ Err StepRefused.NumbersEnd) }
     {
         if !ok {
-            let next = if upto < self.next { upto + 1 } else { self.next };
+            let next = if upto < self.next {
+                upto + 1
+            } else {
+                self.next
+            };
             return Ok(Progress {
                 matched: self.matched,
                 next,

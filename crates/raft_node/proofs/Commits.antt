@@ -61,11 +61,11 @@ module _ {E : Type 0} (s : RaftState E) where
       (λ (r : RaftStepped E). KeepsCommitted s r.node)
       (λ _. record { rises = le_refl s.view; same = refl })
       (λ e.
-          let a : agrees_to_view s.log s.view prev entries ≡ true = elim (or_cases (nat_lt term s.votes.term) (agrees_to_view s.log s.view prev entries) agrees) [
-            | inl less ↦ absurd (false≢true (sym e ∙ less))
-            | inr a ↦ a
-          ] in
-          record { rises = taken_rises s.log s.view prev entries prev_term commit; same = taken_same s.log s.view prev entries prev_term commit within a })
+      let a : agrees_to_view s.log s.view prev entries ≡ true = elim (or_cases (nat_lt term s.votes.term) (agrees_to_view s.log s.view prev entries) agrees) [
+        | inl less ↦ absurd (false≢true (sym e ∙ less))
+        | inr a ↦ a
+      ] in
+      record { rises = taken_rises s.log s.view prev entries prev_term commit; same = taken_same s.log s.view prev entries prev_term commit within a })
 
   say_keeps : (from : NodeId) (term : ℕ) (ok : Bool) (upto : ℕ) → KeepsCommitted s (say_row s from term ok upto)
   say_keeps from term ok upto =

@@ -5,7 +5,9 @@ use region_map::{NodeId, NodeSet};
 #[derive(Drop)]
 pub enum RaftInput<E> {
     /// Time passes, and these nodes are held to be down.
-    Tick { unseen: NodeSet },
+    Tick {
+        unseen: NodeSet,
+    },
     /// A message comes from a node.
     Deliver {
         from: NodeId,

@@ -11,3 +11,5 @@ pub use node::{LOG_LIMIT, ProposeRefused, RaftNode};
 pub mod input;
 pub mod kept;
 pub mod node;
+#[cfg(test)]
+mod tests;

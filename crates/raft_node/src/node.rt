@@ -270,24 +270,20 @@ impl<E: RaftEntry> RaftNode<E> {
     }
 
     /// Asks these nodes for their votes in its term.
-    fn ask(
-        &self,
-        alloc: Global,
-        to: &NodeSet,
-    ) -> Result<Vec<(NodeId, RaftMessage<E>)>, OutOfMemory>
+    fn ask(&self, alloc: Global, to: &NodeSet) -> Result<Vec<(NodeId, RaftMessage<E>)>, OutOfMemory>
         ensures { IfOk result (λ sent. sent.items ≡ asks self.now.votes.term (last_term self.now.log) (length self.now.log) to.now) }
     {
-        asks(alloc, self.votes.term(), self.log.last_term(), self.log.len(), to)
+        asks(
+            alloc,
+            self.votes.term(),
+            self.log.last_term(),
+            self.log.len(),
+            to,
+        )
     }
 
     /// It is asked for its vote.
-    fn asked(
-        &mut self,
-        from: NodeId,
-        term: u64,
-        last_term: u64,
-        last_index: u64,
-    ) -> RaftMessage<E>
+    fn asked(&mut self, from: NodeId, term: u64, last_term: u64, last_index: u64) -> RaftMessage<E>
         ensures { record { node = self.new; sent = (from, result) ∷ [] } ≡ ask_row self.old from term last_term last_index }
     {
         let (own_term, own_index) = (self.log.last_term(), self.log.len());
@@ -367,13 +363,7 @@ impl<E: RaftEntry> RaftNode<E> {
     }
 
     /// A leader learns how far a node's log agrees.
-    fn take_say(
-        &mut self,
-        from: NodeId,
-        term: u64,
-        ok: bool,
-        upto: u64,
-    ) -> Result<(), StepRefused>
+    fn take_say(&mut self, from: NodeId, term: u64, ok: bool, upto: u64) -> Result<(), StepRefused>
         ensures ok { OnOk result (self.new ≡ say_row self.old from term ok upto) }
         ensures numbers { IsErrOf result StepRefused.NumbersEnd ↔ IsTrue (deliver_ends self.old from (AppendSay term ok upto)) }
     {
@@ -417,8 +407,7 @@ impl<E: RaftEntry> RaftNode<E> {
                 entries,
                 commit,
             } => {
-                let answer =
-                    self.take_append(from, term, prev_index, prev_term, entries, commit)?;
+                let answer = self.take_append(from, term, prev_index, prev_term, entries, commit)?;
                 Ok(vec![in alloc; (from, answer)]?)
             }
             RaftMessage::AppendSay { term, ok, upto } => {

@@ -17,7 +17,10 @@ pub enum RaftMessage<E> {
         last_index: u64,
     },
     /// The answer.
-    VoteSay { term: u64, granted: bool },
+    VoteSay {
+        term: u64,
+        granted: bool,
+    },
     /// The leader of a term has these entries behind an index, and acts on its log up to `commit`.
     Append {
         term: u64,
@@ -27,7 +30,11 @@ pub enum RaftMessage<E> {
         commit: u64,
     },
     /// The answer: where `ok`, the log agrees with the leader's up to `upto`; else it may do so there.
-    AppendSay { term: u64, ok: bool, upto: u64 },
+    AppendSay {
+        term: u64,
+        ok: bool,
+        upto: u64,
+    },
 }
 
 /// Asks these nodes for their votes in a term, for a log that ends there.

@@ -232,8 +232,7 @@ impl VoteNode {
             None => true,
             Some(vote) => vote == from,
         };
-        let reaches =
-            last_term > own_term || last_term == own_term && last_index >= own_index;
+        let reaches = last_term > own_term || last_term == own_term && last_index >= own_index;
         self.term == term && free && reaches
     }
 

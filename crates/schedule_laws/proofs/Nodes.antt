@@ -1,6 +1,6 @@
 -- What holds of each node when one of them moves on.
 use Rattle.std.proofs.Common.{◌≡◌, ◌==◌, ℕ, false, refl, sym, subst}
-use Rattle.std.proofs.lemmas.Bool.{cond_both, eqb-true, eq-eqb, ne_eqb}
+use Rattle.std.proofs.lemmas.Bool.{cond_both, eqb-true, eq-eqb}
 use Rattle.schedule_laws.specs.Schedules.{set_at}
 
 -- what holds of the new value at n, and of each old value elsewhere, holds of each value

@@ -1,5 +1,5 @@
 -- Runs of events, and values by the numbers of nodes.
-use Rattle.std.specs.Prelude.{ℕ, ◌==◌, Bool, if◌then◌else◌, List, [], ◌∷◌}
+use Rattle.std.specs.Prelude.{ℕ, ◌==◌, if◌then◌else◌, List, [], ◌∷◌}
 
 -- a value set at one node
 abbrev pub set_at : {A : Type 0} → (ℕ → A) → ℕ → A → ℕ → A

@@ -4,6 +4,7 @@
 //! Promise: what each event of a run keeps, the run keeps; what holds of each message that was sent,
 //! and of each node, still does when one node moves on.
 #![tactic(auto)]
+
 ghost use Rattle.std.specs.Prelude.{◌≡◌, ◌∷◌, ◌++◌, [], List};
 ghost use Rattle.schedule_laws.specs.Schedules.{run};
 
