@@ -16,7 +16,7 @@ use Rattle.raft_append.proofs.Views.{taken_rises, taken_same}
 use Rattle.raft_node.specs.declared.input.RaftInput.{RaftInput}
 use Rattle.raft_node.specs.declared.input.RaftInput.TheVariants.{Tick, Deliver}
 use Rattle.raft_node.specs.State.{RaftState}
-use Rattle.raft_node.specs.Rows.{RaftStepped, is_full, with_entry, won, append_all, elected, elect_row, tick_row, append_row, answered, say_row, deliver_row, input_row, advanced, raft_step, proposed, keeps_view, is_well_formed}
+use Rattle.raft_node.specs.Rows.{RaftStepped, is_full, with_entry, won, append_all, elected, elect_row, tick_row, append_row, answered, say_row, deliver_row, advanced, raft_step, proposed, keeps_view, is_well_formed}
 use Rattle.raft_node.specs.Committed.{KeepsCommitted}
 
 module _ {E : Type 0} (s : RaftState E) where

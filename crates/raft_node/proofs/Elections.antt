@@ -1,5 +1,5 @@
 -- Elections that do not end at once, and those that do.
-use Rattle.std.proofs.Common.{◌≡◌, ℕ, ◌+◌, ◌^◌, Bool, true, false, List, ◌++◌, length, arith, subst, sym, nat_le, not, ◌&&◌, ◌||◌}
+use Rattle.std.proofs.Common.{◌≡◌, ℕ, true, false, List, ◌++◌, length, arith, subst, sym, ◌||◌}
 use Rattle.std.proofs.lemmas.Bool.Decides.{nat_tests}
 use Rattle.region_map.specs.declared.id.NodeId.{NodeId}
 use Rattle.raft_vote.specs.declared.message.RaftMessage.{RaftMessage}
@@ -7,7 +7,7 @@ use Rattle.raft_vote.specs.Log.{last_term}
 use Rattle.raft_vote.specs.State.{VoteState}
 use Rattle.raft_vote.specs.Rows.{Asking, is_leader, vote_tick, ends_terms, asks}
 use Rattle.raft_node.specs.State.{RaftState}
-use Rattle.raft_node.specs.Rows.{RaftStepped, elected, won, append_all, elect_row, elect_ends, ends_at_win}
+use Rattle.raft_node.specs.Rows.{elected, won, append_all, elect_row, elect_ends, ends_at_win}
 
 module _ {E : Type 0} (noop : E) (s : RaftState E) where
   elected_lost : (votes : VoteState) (sent : List (NodeId × RaftMessage E)) → is_leader votes.role ≡ false → elected noop s votes sent ≡ record { node = record s { votes = votes }; sent = sent }

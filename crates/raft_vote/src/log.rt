@@ -115,6 +115,13 @@ impl<E: RaftEntry> Log<E> {
         Ok(())
     }
 
+    /// The same entries again.
+    pub fn copy(&self, alloc: Global) -> Result<Log<E>, OutOfMemory>
+        ensures { IfOk result (λ copy. copy ≡ self.now) }
+    {
+        self.copy_behind(alloc, 0)
+    }
+
     /// The entries behind an index.
     pub fn copy_behind(&self, alloc: Global, index: u64) -> Result<Log<E>, OutOfMemory>
         ensures { IfOk result (λ copy. copy ≡ drop index self.now) }

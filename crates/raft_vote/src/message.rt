@@ -2,7 +2,7 @@
 ghost use Rattle.std.specs.Prelude.{◌≡◌, IfOk};
 ghost use Rattle.raft_vote.specs.Rows.{asks};
 
-use crate::log::Log;
+use crate::log::{Log, RaftEntry};
 use memory::OutOfMemory;
 use region_map::{NodeId, NodeSet};
 use std::alloc::Global;
@@ -35,6 +35,47 @@ pub enum RaftMessage<E> {
         ok: bool,
         upto: u64,
     },
+}
+
+impl<E: RaftEntry> RaftMessage<E> {
+    /// The same message again.
+    pub fn copy(&self, alloc: Global) -> Result<RaftMessage<E>, OutOfMemory>
+        ensures { IfOk result (λ message. message ≡ self.now) }
+    {
+        match self {
+            RaftMessage::VoteAsk {
+                term,
+                last_term,
+                last_index,
+            } => Ok(RaftMessage::VoteAsk {
+                term: *term,
+                last_term: *last_term,
+                last_index: *last_index,
+            }),
+            RaftMessage::VoteSay { term, granted } => Ok(RaftMessage::VoteSay {
+                term: *term,
+                granted: *granted,
+            }),
+            RaftMessage::Append {
+                term,
+                prev_index,
+                prev_term,
+                entries,
+                commit,
+            } => Ok(RaftMessage::Append {
+                term: *term,
+                prev_index: *prev_index,
+                prev_term: *prev_term,
+                entries: entries.copy(alloc)?,
+                commit: *commit,
+            }),
+            RaftMessage::AppendSay { term, ok, upto } => Ok(RaftMessage::AppendSay {
+                term: *term,
+                ok: *ok,
+                upto: *upto,
+            }),
+        }
+    }
 }
 
 /// Asks these nodes for their votes in a term, for a log that ends there.

@@ -1,4 +1,4 @@
-use Rattle.std.proofs.Common.{◌≡◌, ◌∙◌, sym, ap, subst, arith}
+use Rattle.std.proofs.Common.{◌∙◌, sym, ap, subst}
 use Rattle.raft_node.specs.Rows.{RaftStepped, advanced}
 use Rattle.raft_node.specs.Committed.{KeepsCommitted}
 use Rattle.raft_node.proofs.Commits.{step_keeps}
