@@ -156,6 +156,7 @@ fn a_majority_elects_and_commits(rt: HostRuntime) -> Result<(), Fail> {
     assert_eq!(rt; kept.view, 1);
     assert_eq!(rt; kept.term, 1);
     assert_eq!(rt; kept.vote, Some(NodeId(0)));
+    assert_eq!(rt; kept.log.into_vec().len(), 1);
     Ok(())
 }
 
@@ -206,7 +207,10 @@ fn a_follower_takes_what_fits(rt: HostRuntime) -> Result<(), Fail> {
             entries: log_of(alloc, &[entry])?,
             commit,
         };
+        let again = append.copy(alloc)?;
         let sent = give(alloc, &mut second, 0, append)?;
+        assert!(rt; answers(&sent, own, ok, upto));
+        let sent = give(alloc, &mut second, 0, again)?;
         assert!(rt; answers(&sent, own, ok, upto));
         assert_eq!(rt; terms_of(&second), terms);
         assert_eq!(rt; second.committed(), view);
