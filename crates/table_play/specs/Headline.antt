@@ -3,6 +3,8 @@ use Rattle.std.specs.Prelude.{◌≡◌, ℕ, ◌<◌, ◌≤◌, Bool, true, fa
 use Rattle.contract_types.specs.declared.limits.Which.TheVariants.{ScriptBytes, Numbers}
 use Rattle.line_io.specs.Bytes.{Gives, Appends, IsAtEnd}
 use Rattle.line_io.specs.Counts.{rose}
+use Rattle.contract_types.specs.Setup.{SetupState}
+use Rattle.world_core.specs.Run.{IsRun}
 use Rattle.node_core.specs.declared.journal.Entry.{Entry}
 use Rattle.node_core.specs.Journal.{JournalState, empty_journal}
 use Rattle.script_text.specs.declared.status.Status.{Status}
@@ -81,6 +83,10 @@ pub record Ends (o : Outcome) (result : Status) (journal : JournalState) (held h
   pub journal_is : journal ≡ o.journal
   pub says : Says o.status o.text result held held' faults faults'
 
+-- memory was wanted before anything was written
+abbrev pub WantsUnsaid : Status → Option (List ℕ) → Option (List ℕ) → Type 0
+WantsUnsaid result held held' = (result ≡ status.OutOfMemory) × (held' ≡ held)
+
 -- a journal that holds what was played so far of a script that was read
 abbrev pub IsPartOf : JournalState → ScriptState → Type 0
 IsPartOf journal script = (journal.setup ≡ Some script.setup) × ((later : List Entry) × ((play_journal script.setup script.items).past ≡ later ++ journal.past))
@@ -90,3 +96,18 @@ pub record Wants (result : Status) (journal : JournalState) (held held' : Option
   pub status_is : result ≡ status.OutOfMemory
   pub nothing_written : held' ≡ held
   pub played : (journal ≡ empty_journal) ⊎ ((script : ScriptState) × IsPartOf journal script)
+
+-- the words are no command, and nothing was read; or they are, and the outcome is that of what was read; or memory was wanted
+abbrev pub IsPlay : List (List ℕ) → Status → JournalState → Option (List ℕ) → Option (List ℕ) → ℕ → ℕ → Option (List ℕ) → Option (List ℕ) → ℕ → ℕ → Type 0
+IsPlay words result journal left left' faults faults' held held' writes writes' =
+    ((is_command words ≡ false) × (left' ≡ left) × Ends outcome_of_words result journal held held' writes writes')
+    ⊎ (((is_command words ≡ true) × ((r : Reading) × IsReading r left left' faults faults' × Ends (outcome_of r) result journal held held' writes writes'))
+       ⊎ Wants result journal held held')
+
+-- the setup of a journal, where it has one, makes its entries a run
+abbrev pub IsRunFrom : Option SetupState → List Entry → Type 0
+IsRunFrom None past = past ≡ []
+IsRunFrom (Some setup) past = IsRun setup past
+
+abbrev pub IsRunJournal : JournalState → Type 0
+IsRunJournal journal = IsRunFrom journal.setup journal.past

@@ -1,0 +1,15 @@
+//! Words and laws that every proof over schedules needs. It has no code.
+//!
+//! Above: the laws of the log, and of nodes and worlds. Below: nothing.
+//! Promise: what each event of a run keeps, the run keeps; what holds of each message that was sent,
+//! and of each node, still does when one node moves on.
+#![tactic(auto)]
+
+ghost use Rattle.std.specs.Prelude.{◌≡◌, ◌∷◌, ◌++◌, [], List};
+ghost use Rattle.schedule_laws.specs.Schedules.{run};
+
+/// A run goes event by event, the first one first.
+pub fn runs_go_on<W, Ev>()
+    ensures { (happens : W → Ev → W) (events : List Ev) (e : Ev) (w : W)
+        → run happens (events ++ e ∷ []) w ≡ happens (run happens events w) e }
+{}

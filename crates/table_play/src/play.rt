@@ -1,0 +1,169 @@
+//! The top call.
+ghost use Rattle.std.specs.Prelude.{◌≡◌, ◌⊎◌, ℕ, List, map};
+ghost use Rattle.node_core.specs.Journal.{empty_journal};
+ghost use Rattle.script_text.specs.Lines.{read_lines};
+ghost use Rattle.report_text.specs.Report.{report, joined};
+ghost use Rattle.world_core.specs.Story.{IsRegisterStory, story};
+ghost use Rattle.table_play.specs.Play.{ending_of};
+ghost use Rattle.table_play.specs.Headline.{is_command, IsPlay, IsRunJournal, Ends, Wants, WantsUnsaid, Says, outcome_of_script, plays, status_of};
+
+use crate::events::play_items;
+use crate::saying::say;
+use contract_types::Which;
+use line_io::{ReadRefused, Sink, Source, read_all};
+use node_core::Journal;
+use report_text::{
+    Ending, PrintRefused, Refusal, limit_line, print_report, read_fault_line, script_line,
+    usage_line,
+};
+use script_text::{Script, ScriptRefused, Status, read_script};
+use std::alloc::Global;
+use world_core::World;
+
+/// The most bytes of a script.
+const MOST_SCRIPT_BYTES: u64 = 16_777_216;
+
+/// The greatest number that a life, a term, a timestamp, an id counter, a log index or a part number may be.
+const GREATEST_NUMBER: u64 = (1 << 62) - 1;
+
+/// Whether the words are the one command, `play`.
+fn is_command(words: &[&str]) -> bool
+    ensures { result ≡ is_command (map (λ w. w.now) words.now) }
+{
+    match words {
+        [word] => *word == "play",
+        _ => false,
+    }
+}
+
+/// Prints the report of what was played, and ends with its status.
+fn print<K: Sink>(
+    alloc: Global,
+    script: &Script,
+    journal: &Journal,
+    refused: &[Refusal],
+    met: bool,
+    sink: &mut K,
+) -> Status
+    ensures { Says (status_of met) (joined (report script.now.setup script.now.items journal.now.past refused.now (ending_of met)))
+            result (K.held sink.old) (K.held sink.new) (K.faults sink.old) (K.faults sink.new)
+        ⊎ WantsUnsaid result (K.held sink.old) (K.held sink.new) }
+{
+    let ending = if met {
+        Ending::Limit {
+            which: Which::Numbers,
+            number: GREATEST_NUMBER,
+        }
+    } else {
+        Ending::End
+    };
+    match print_report(
+        alloc,
+        script.setup(),
+        script.items(),
+        journal,
+        refused,
+        ending,
+        sink,
+    ) {
+        Err(PrintRefused::WriteFault) => Status::WriteFault,
+        Err(PrintRefused::OutOfMemory) => Status::OutOfMemory,
+        Ok(()) => {
+            if met {
+                Status::Limit {
+                    which: Which::Numbers,
+                    number: GREATEST_NUMBER,
+                }
+            } else {
+                Status::Ok
+            }
+        }
+    }
+}
+
+/// Plays a script that was read, and prints its report.
+fn play_script<K: Sink>(
+    alloc: Global,
+    script: &Script,
+    sink: &mut K,
+    journal: &mut Journal,
+) -> Status
+    requires { journal.old ≡ empty_journal }
+    ensures ends { Ends (plays script.now) result journal.new (K.held sink.old) (K.held sink.new) (K.faults sink.old) (K.faults sink.new)
+        ⊎ Wants result journal.new (K.held sink.old) (K.held sink.new) }
+    ensures run { IsRunJournal journal.new }
+{
+    let Ok(mut world) = World::begin(alloc, script.setup()) else {
+        return Status::OutOfMemory;
+    };
+    let mut refused = Vec::new(alloc);
+    let played = play_items(alloc, &mut world, script.items(), &mut refused);
+    *journal = world.into_journal();
+    match played {
+        Err(_) => Status::OutOfMemory,
+        Ok(met) => print(alloc, script, journal, &refused, met, sink),
+    }
+}
+
+/// Plays the script of a text, or says which line is refused.
+fn play_text<K: Sink>(
+    alloc: Global,
+    text: &[u8],
+    sink: &mut K,
+    journal: &mut Journal,
+) -> Status
+    requires { journal.old ≡ empty_journal }
+    ensures ends { Ends (outcome_of_script (read_lines text.now)) result journal.new (K.held sink.old) (K.held sink.new) (K.faults sink.old) (K.faults sink.new)
+        ⊎ Wants result journal.new (K.held sink.old) (K.held sink.new) }
+    ensures run { IsRunJournal journal.new }
+{
+    match read_script(alloc, text) {
+        Err(ScriptRefused::OutOfMemory) => Status::OutOfMemory,
+        Err(ScriptRefused::Line(line, reason)) => match script_line(alloc, line, reason) {
+            Err(_) => Status::OutOfMemory,
+            Ok(printed) => say(sink, printed.as_bytes(), Status::Script { line, reason }),
+        },
+        Ok(script) => play_script(alloc, &script, sink, journal),
+    }
+}
+
+/// Plays the script that the source gives, and prints its report; `journal` is then the journal of this call.
+///
+/// The words are `play` alone. The status tells how it ended: with the whole report, or why not.
+pub fn play<S: Source, K: Sink>(
+    alloc: Global,
+    words: &[&str],
+    source: &mut S,
+    sink: &mut K,
+    journal: &mut Journal,
+) -> Status
+    requires { journal.old ≡ empty_journal }
+    ensures play { IsPlay (map (λ w. w.now) words.now) result journal.new (S.left source.old) (S.left source.new)
+        (S.faults source.old) (S.faults source.new) (K.held sink.old) (K.held sink.new) (K.faults sink.old) (K.faults sink.new) }
+    ensures run { IsRunJournal journal.new }
+    ensures stories { (key : List ℕ) → IsRegisterStory journal.new.past key (story journal.new.past key) }
+{
+    if !is_command(words) {
+        return say(sink, usage_line().as_bytes(), Status::Usage);
+    }
+    match read_all(alloc, source, MOST_SCRIPT_BYTES) {
+        Err(ReadRefused::ReadFault) => {
+            say(sink, read_fault_line().as_bytes(), Status::ReadFault)
+        }
+        Err(ReadRefused::TooLong) => {
+            match limit_line(alloc, Which::ScriptBytes, MOST_SCRIPT_BYTES) {
+                Err(_) => Status::OutOfMemory,
+                Ok(line) => say(
+                    sink,
+                    line.as_bytes(),
+                    Status::Limit {
+                        which: Which::ScriptBytes,
+                        number: MOST_SCRIPT_BYTES,
+                    },
+                ),
+            }
+        }
+        Err(ReadRefused::OutOfMemory) => Status::OutOfMemory,
+        Ok(text) => play_text(alloc, text.as_slice(), sink, journal),
+    }
+}
