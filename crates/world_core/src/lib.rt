@@ -10,4 +10,5 @@ pub use push_refused::PushRefused;
 
 pub mod envelope;
 pub mod laws;
+pub mod parts;
 pub mod push_refused;
