@@ -1,5 +1,5 @@
 //! What a world keeps beside its journal, and how an entry changes it.
-ghost use Rattle.std.specs.Prelude.{◌≡◌, ◌<◌, ◌↔◌, ◌⊎◌, ◌||◌, Some, None, false, OnOk, OnErr, IfOk, IfErr, IfSome, IsErrOf, IsTrue, List, map, length, nat_lt, slice_set, slice_index_or};
+ghost use Rattle.std.specs.Prelude.{◌≡◌, ◌<◌, ◌↔◌, ◌⊎◌, ◌||◌, Some, None, false, true, ◌∷◌, OnOk, OnErr, IfOk, IfErr, IfSome, IsErrOf, IsTrue, List, map, length, nat_lt, slice_set, slice_index_or};
 ghost use Rattle.std.specs.BTreeSet.{contains};
 ghost use Rattle.contract_types.specs.Setup.{SetupState};
 ghost use Rattle.node_core.specs.declared.journal.Entry.{Entry};
@@ -122,4 +122,46 @@ pub(crate) fn refusal(
             }
         },
     }
+}
+
+/// Takes an event that nothing but its step may refuse: its node steps, and what that gives is kept. At a refusal
+/// the parts are spoilt, and the journal is as it was.
+pub(crate) fn take(
+    journal: &mut Journal,
+    nodes: &mut Vec<Option<Node>>,
+    messages: &mut Vec<Envelope>,
+    requested: &mut BTreeSet<OpId>,
+    alloc: Global,
+    node: NodeId,
+    input: Input,
+) -> Result<(), PushRefused>
+    requires { node.0 < length nodes.old.items }
+    ensures entry { (setup : SetupState)
+        → IsInStep setup journal.old.past nodes.old.items messages.old.items requested.old
+        → OnOk result (journal.new
+            ≡ record journal.old { past = entry_of setup journal.old.past node input ∷ journal.old.past }) }
+    ensures in_step { (setup : SetupState)
+        → IsInStep setup journal.old.past nodes.old.items messages.old.items requested.old
+        → OnOk result (IsInStep setup (entry_of setup journal.old.past node input ∷ journal.old.past)
+            nodes.new.items messages.new.items requested.new) }
+    ensures taken { (setup : SetupState)
+        → IsInStep setup journal.old.past nodes.old.items messages.old.items requested.old
+        → OnOk result (numbers_refusal setup journal.old.past node input ≡ None) }
+    ensures refused { (setup : SetupState)
+        → IsInStep setup journal.old.past nodes.old.items messages.old.items requested.old
+        → IfErr result (λ why. (why ≡ PushRefused.OutOfMemory)
+            ⊎ (numbers_refusal setup journal.old.past node input ≡ Some why)) }
+    ensures ends { IfErr result (λ why. is_final why ≡ true) }
+    ensures kept { OnErr result (journal.new ≡ journal.old) }
+{
+    let brought = bring(alloc, messages, &input)?;
+    let outputs = step_node(nodes, alloc, node, &input, brought)?;
+    collect(alloc, node, outputs.as_slice(), messages)?;
+    note(requested, &input)?;
+    journal.push(Entry {
+        node,
+        input,
+        outputs,
+    })?;
+    Ok(())
 }
