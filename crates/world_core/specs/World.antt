@@ -1,18 +1,23 @@
 -- What clients see of a world, and which events it takes.
 use Rattle.std.specs.Prelude.{◌≡◌, ℕ, ◌==◌, Bool, true, false, not, nat_lt, List, map, Option, Some, None, if◌then◌else◌}
+use Rattle.std.specs.declared.cmp.Ordering.{Ordering}
+use Rattle.std.specs.Ordering.{nat_cmp}
+use Rattle.std.specs.BTreeSet.{BTreeSet, contains}
 use Rattle.region_map.specs.declared.id.NodeId.{NodeId}
 use Rattle.region_map.specs.declared.step_refused.StepRefused.{StepRefused}
 use Rattle.region_map.specs.declared.step_refused.StepRefused.TheVariants as step
+use Rattle.register_laws.specs.declared.operation.OpId.{OpId}
 use Rattle.contract_types.specs.Setup.{SetupState}
 use Rattle.contract_types.specs.declared.limits.Which.TheVariants.{Numbers}
 use Rattle.exec_types.specs.declared.input.Input.{Input}
 use Rattle.exec_types.specs.declared.input.Input.TheVariants.{Request, GiveUp, Deliver}
 use Rattle.node_core.specs.declared.journal.Entry.{Entry}
 use Rattle.node_core.specs.Step.{NodeState, nodes_below, ends_numbers}
+use Rattle.node_core.specs.Journal.{JournalState}
 use Rattle.world_core.specs.declared.envelope.Envelope.{Envelope}
 use Rattle.world_core.specs.declared.push_refused.PushRefused.{PushRefused}
 use Rattle.world_core.specs.declared.push_refused.PushRefused.TheVariants.{NoSuchNode, NoSuchMessage, NotYours, OpKnown, JournalFull, OutOfMemory}
-use Rattle.world_core.specs.Run.{is_requested, message_at, brought, state}
+use Rattle.world_core.specs.Run.{IsRun, sent, is_requested, message_at, brought, state}
 
 -- what the table began with, the entries since, the newest first, and what the world answers once it ended
 pub record WorldState : Type 0 where
@@ -48,6 +53,11 @@ abbrev pub event_refusal : SetupState → List Entry → NodeId → Input → Op
 event_refusal setup past node input =
     if nat_lt node.0 setup.nodes then input_refusal past node input (numbers_refusal setup past node input) else Some NoSuchNode
 
+-- the first refusal that needs no step of the node
+abbrev pub entry_refusal : SetupState → List Entry → NodeId → Input → Option PushRefused
+entry_refusal setup past node input =
+    if nat_lt node.0 setup.nodes then input_refusal past node input None else Some NoSuchNode
+
 abbrev pub unless_ended : Option PushRefused → Option PushRefused → Option PushRefused
 unless_ended None later = later
 unless_ended (Some why) later = Some why
@@ -68,3 +78,28 @@ is_final OutOfMemory = true
 -- the world after a refusal: nothing changed, but that it may have ended
 abbrev pub after_refusal : WorldState → PushRefused → WorldState
 after_refusal w why = if is_final why then record w { ended = Some why } else w
+
+-- the node that a message is for
+abbrev pub receiver_of : Option Envelope → Option NodeId
+receiver_of None = None
+receiver_of (Some e) = Some e.to
+
+-- ---- what a world keeps beside its journal
+
+abbrev pub op_cmp : OpId → OpId → Ordering
+op_cmp a b = nat_cmp a.0 b.0
+
+-- the operations that a journal requested
+abbrev pub AreRequested : BTreeSet OpId → List Entry → Type 0
+AreRequested requested past = (op : OpId) → contains op_cmp requested op ≡ is_requested past op
+
+-- the nodes, the messages and the operations are those that the journal gives
+pub record IsInStep (setup : SetupState) (past : List Entry) (nodes : List (Option NodeState)) (messages : List Envelope) (requested : BTreeSet OpId) : Type 0 where
+  pub states_are : nodes ≡ states setup past
+  pub sent_are : messages ≡ sent past
+  pub ops_are : AreRequested requested past
+
+pub record IsWorld (setup : SetupState) (journal : JournalState) (nodes : List (Option NodeState)) (messages : List Envelope) (requested : BTreeSet OpId) (ended : Option PushRefused) : Type 0 where
+  pub begun : journal.setup ≡ Some setup
+  pub run : IsRun setup journal.past
+  pub in_step : ended ≡ None → IsInStep setup journal.past nodes messages requested

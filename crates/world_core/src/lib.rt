@@ -7,7 +7,10 @@
 pub use envelope::Envelope;
 pub use laws::{answers_of_runs, stories_of_runs};
 pub use push_refused::PushRefused;
+pub use world::World;
 
 pub mod envelope;
 pub mod laws;
+pub mod parts;
 pub mod push_refused;
+pub mod world;

@@ -1,0 +1,228 @@
+-- What a world keeps beside its journal, as entries come, and which events it refuses.
+use Rattle.std.proofs.Common.{◌≡◌, ◌≢◌, ◌↔◌, ◌⊎◌, Result, Ok, Err, IsErrOf, ◌==◌, ℕ, zero, suc, ◌<◌, Bool, true, false, cond, not, ◌&&◌, ◌||◌, nat_lt, List, [], ◌∷◌, ◌++◌, map, length, set, get_or, Option, Some, None, inl, inr, refl, sym, ap, ◌∙◌, arith}
+use Rattle.std.proofs.lemmas.Bool.{cases_eq, cases_lt, eq-eqb, ne_eqb, lt-ltb, false≢true}
+use Rattle.std.proofs.lemmas.List.{same_lists, get_or_append_left, get_or-map, get_or-set_same, get_or-set_other, length-map, length-set}
+use Rattle.std.proofs.Math.Seq.{get_or-append_seam}
+use Rattle.std.proofs.Common.{length-append}
+use Rattle.std.specs.BTreeSet.{BTreeSet, contains}
+use Rattle.region_map.specs.declared.id.NodeId.{NodeId}
+use Rattle.register_laws.specs.declared.operation.OpId.{OpId}
+use Rattle.contract_types.specs.Setup.{SetupState}
+use Rattle.region_map.specs.declared.step_refused.StepRefused.{StepRefused}
+use Rattle.region_map.specs.declared.step_refused.StepRefused.TheVariants.{NumbersEnd}
+use Rattle.region_map.specs.declared.step_refused.StepRefused.TheVariants as step
+use Rattle.contract_types.specs.declared.limits.Which.TheVariants.{Numbers}
+use Rattle.exec_types.specs.declared.input.Input.{Input}
+use Rattle.exec_types.specs.declared.input.Input.TheVariants.{Request, GiveUp, Deliver}
+use Rattle.exec_types.specs.declared.output.Output.{Output}
+use Rattle.node_core.specs.declared.node.Brought.{Brought}
+use Rattle.node_core.specs.declared.journal.Entry.{Entry}
+use Rattle.node_core.specs.Step.{NodeState, nodes_below, node_step, ends_numbers}
+use Rattle.world_core.specs.declared.envelope.Envelope.{Envelope}
+use Rattle.world_core.specs.declared.push_refused.PushRefused.{PushRefused}
+use Rattle.world_core.specs.declared.push_refused.PushRefused.TheVariants.{NoSuchNode, NoSuchMessage, NotYours, OpKnown, JournalFull, OutOfMemory}
+use Rattle.world_core.specs.Run.{IsRun, sent, sent_by, brought, state, requests, is_requested, is_fresh, is_to, message_at, arrives, may_step, outs_of, entry_of}
+use Rattle.world_core.specs.World.{states, step_refusal, numbers_refusal, owner_refusal, input_refusal, entry_refusal, event_refusal, op_cmp, AreRequested, IsInStep}
+
+-- ---- lists by the numbers of nodes
+
+length_below : (n : ℕ) → length (nodes_below n) ≡ n
+length_below zero = refl
+length_below (suc n) = omega (arith, length-append (nodes_below n) (n ∷ []), length_below n)
+
+get_below : (n k d : ℕ) → k < n → get_or (nodes_below n) k d ≡ k
+get_below zero k d h = absurd (omega arith)
+get_below (suc n) k d h =
+    let count : length (nodes_below n) ≡ n = length_below n in
+    elim (cases_lt k n) [
+      | inl within ↦ get_or_append_left (nodes_below n) (n ∷ []) d k (omega arith) ∙ get_below n k d within
+      | inr past ↦
+          let last : k ≡ length (nodes_below n) = omega arith in
+          let same : n ≡ k = omega arith in
+          ap (λ m. get_or (nodes_below n ++ n ∷ []) m d) last ∙ get_or-append_seam (nodes_below n) n [] d ∙ same
+    ]
+
+pub length_map_below : {A : Type 0} (f : ℕ → A) (n : ℕ) → length (map f (nodes_below n)) ≡ n
+length_map_below f n = length-map (nodes_below n) f ∙ length_below n
+
+pub get_map_below : {A : Type 0} (f : ℕ → A) (n k : ℕ) (d : A) → k < n → get_or (map f (nodes_below n)) k d ≡ f k
+get_map_below f n k d h =
+    let within : k < length (nodes_below n) = omega (arith, length_below n) in
+    get_or-map f (nodes_below n) k 0 d within ∙ ap f (get_below n k 0 h)
+
+set_map_below : {A : Type 0} (f g : ℕ → A) (n i : ℕ) (v : A) → i < n → v ≡ g i → ((k : ℕ) → k ≢ i → f k ≡ g k) → set (map f (nodes_below n)) i v ≡ map g (nodes_below n)
+set_map_below f g n i v h here others =
+    let count : length (map f (nodes_below n)) ≡ n = length_map_below f n in
+    let counts : length (set (map f (nodes_below n)) i v) ≡ n = length-set (map f (nodes_below n)) i v ∙ count in
+    same_lists (set (map f (nodes_below n)) i v) (map g (nodes_below n)) (counts ∙ sym (length_map_below g n))
+    (λ k d within.
+        let below : k < n = omega arith in
+        elim (cases_eq k i) [
+          | inl same ↦
+              ap (λ m. get_or (set (map f (nodes_below n)) i v) m d) same ∙ get_or-set_same (map f (nodes_below n)) i v d (omega arith)
+              ∙ here ∙ ap g (sym same) ∙ sym (get_map_below g n k d below)
+          | inr other ↦
+              get_or-set_other (map f (nodes_below n)) i k v d other ∙ get_map_below f n k d below ∙ others k other
+              ∙ sym (get_map_below g n k d below)
+        ])
+
+-- ---- one more entry
+
+-- the state of a node after its step
+abbrev pub stepped : SetupState → List Entry → NodeId → Input → NodeState
+stepped setup past node input = (node_step (state setup node.0 past) input (brought past input)).node
+
+states-next : (setup : SetupState) (past : List Entry) (node : NodeId) (input : Input) → node.0 < setup.nodes
+    → set (states setup past) node.0 (Some (stepped setup past node input)) ≡ states setup (entry_of setup past node input ∷ past)
+states-next setup past node input h =
+    let f : ℕ → Option NodeState = λ n. Some (state setup n past) in
+    let g : ℕ → Option NodeState = λ n. Some (state setup n (entry_of setup past node input ∷ past)) in
+    set_map_below f g setup.nodes node.0 (Some (stepped setup past node input)) h
+    (ap (λ b. Some (cond b (stepped setup past node input) (state setup node.0 past))) (sym (eq-eqb node.0 node.0 refl)))
+    (λ k other.
+        ap (λ b. Some (cond b (node_step (state setup k past) input (brought past input)).node (state setup k past)))
+        (sym (ne_eqb node.0 k (λ e. other (sym e)))))
+
+pub state_at : (setup : SetupState) (past : List Entry) (n : ℕ) → n < setup.nodes → get_or (states setup past) n None ≡ Some (state setup n past)
+state_at setup past n h = get_map_below (λ (k : ℕ). Some (state setup k past)) setup.nodes n None h
+
+pub length_states : (setup : SetupState) (past : List Entry) → length (states setup past) ≡ setup.nodes
+length_states setup past = length_map_below (λ (k : ℕ). Some (state setup k past)) setup.nodes
+
+pub IsInStep-next : (setup : SetupState) (past : List Entry) (node : NodeId) (input : Input) (nodes new : List (Option NodeState)) (messages more : List Envelope) (requested noted : BTreeSet OpId)
+    → IsInStep setup past nodes messages requested → node.0 < length nodes
+    → new ≡ set nodes node.0 (Some (stepped setup past node input))
+    → more ≡ messages ++ sent_by node (outs_of setup past node input)
+    → ((op : OpId) → contains op_cmp noted op ≡ (requests input op || is_requested past op))
+    → IsInStep setup (entry_of setup past node input ∷ past) new more noted
+IsInStep-next setup past node input nodes new messages more requested noted h within n m r =
+    let count : length nodes ≡ setup.nodes = ap length h.states_are ∙ length_states setup past in
+    record {
+      states_are = n ∙ ap (λ (l : List (Option NodeState)). set l node.0 (Some (stepped setup past node input))) h.states_are ∙ states-next setup past node input (omega arith);
+      sent_are = m ∙ ap (λ (l : List Envelope). l ++ sent_by node (outs_of setup past node input)) h.sent_are;
+      ops_are = r;
+    }
+
+-- ---- refusals
+
+-- an input that is not refused may go to its node, where the limit of the numbers lets it
+input_taken : (past : List Entry) (node : NodeId) (input : Input) (later : Option PushRefused) → input_refusal past node input None ≡ None
+    → (input_refusal past node input later ≡ later) × (arrives past node input ≡ true) × (is_fresh past input ≡ true)
+input_taken past node (Request op key what) later =
+    elim (is_requested past op) as (λ c. cond c (Some OpKnown) None ≡ None → (cond c (Some OpKnown) later ≡ later) × (true ≡ true) × (not c ≡ true)) [
+      | true ↦ λ e. absurd (cc)
+      | false ↦ λ e. (refl, refl, refl)
+    ]
+input_taken past node (GiveUp op) later = λ e. (refl, refl, refl)
+input_taken past node (Deliver number) later =
+    elim (message_at past number) as (λ m. owner_refusal m node None ≡ None → (owner_refusal m node later ≡ later) × (is_to m node ≡ true) × (true ≡ true)) [
+      | None ↦ λ e. absurd (cc)
+      | Some m ↦
+          elim (m.to.0 == node.0) as (λ c. cond c None (Some NotYours) ≡ None → (cond c later (Some NotYours) ≡ later) × (c ≡ true) × (true ≡ true)) [
+            | true ↦ λ e. (refl, refl, refl)
+            | false ↦ λ e. absurd (cc)
+          ]
+    ]
+
+input_refused : (past : List Entry) (node : NodeId) (input : Input) (later : Option PushRefused) (why : PushRefused) → input_refusal past node input None ≡ Some why
+    → input_refusal past node input later ≡ Some why
+input_refused past node (Request op key what) later why =
+    elim (is_requested past op) as (λ c. cond c (Some OpKnown) None ≡ Some why → cond c (Some OpKnown) later ≡ Some why) [
+      | true ↦ λ e. e
+      | false ↦ λ e. absurd (cc)
+    ]
+input_refused past node (GiveUp op) later why = λ e. absurd (cc)
+input_refused past node (Deliver number) later why =
+    elim (message_at past number) as (λ m. owner_refusal m node None ≡ Some why → owner_refusal m node later ≡ Some why) [
+      | None ↦ λ e. e
+      | Some m ↦
+          elim (m.to.0 == node.0) as (λ c. cond c None (Some NotYours) ≡ Some why → cond c later (Some NotYours) ≡ Some why) [
+            | true ↦ λ e. absurd (cc)
+            | false ↦ λ e. e
+          ]
+    ]
+
+pub event_refused : (setup : SetupState) (past : List Entry) (node : NodeId) (input : Input) (why : PushRefused) → entry_refusal setup past node input ≡ Some why
+    → event_refusal setup past node input ≡ Some why
+event_refused setup past node input why =
+    elim (nat_lt node.0 setup.nodes) as (λ c. cond c (input_refusal past node input None) (Some NoSuchNode) ≡ Some why → cond c (input_refusal past node input (numbers_refusal setup past node input)) (Some NoSuchNode) ≡ Some why) [
+      | true ↦ λ e. input_refused past node input (numbers_refusal setup past node input) why e
+      | false ↦ λ e. e
+    ]
+
+pub event_at_step : (setup : SetupState) (past : List Entry) (node : NodeId) (input : Input) → entry_refusal setup past node input ≡ None
+    → event_refusal setup past node input ≡ numbers_refusal setup past node input
+event_at_step setup past node input =
+    elim (nat_lt node.0 setup.nodes) as (λ c. cond c (input_refusal past node input None) (Some NoSuchNode) ≡ None → cond c (input_refusal past node input (numbers_refusal setup past node input)) (Some NoSuchNode) ≡ numbers_refusal setup past node input) [
+      | true ↦ λ e. (input_taken past node input (numbers_refusal setup past node input) e).0
+      | false ↦ λ e. absurd (cc)
+    ]
+
+-- the node of an event that is not refused is one of the table
+pub within_table : (setup : SetupState) (past : List Entry) (node : NodeId) (input : Input) → entry_refusal setup past node input ≡ None → nat_lt node.0 setup.nodes ≡ true
+within_table setup past node input =
+    elim (nat_lt node.0 setup.nodes) as (λ c. cond c (input_refusal past node input None) (Some NoSuchNode) ≡ None → c ≡ true) [
+      | true ↦ λ e. refl
+      | false ↦ λ e. absurd (cc)
+    ]
+
+no_end : (b : Bool) (why : PushRefused) → cond b (Some why) None ≡ None → not b ≡ true
+no_end true why e = absurd (cc)
+no_end false why e = refl
+
+all_true : (a b c d : Bool) → a ≡ true → b ≡ true → c ≡ true → d ≡ true → (a && b && c && d) ≡ true
+all_true a b c d p q r s = grind arith
+
+may_step-from : (setup : SetupState) (past : List Entry) (node : NodeId) (input : Input) → entry_refusal setup past node input ≡ None → numbers_refusal setup past node input ≡ None
+    → may_step setup past node input ≡ true
+may_step-from setup past node input e n =
+    let inside : nat_lt node.0 setup.nodes ≡ true = within_table setup past node input e in
+    let taken = input_taken past node input None (sym (ap (λ c. cond c (input_refusal past node input None) (Some NoSuchNode)) inside) ∙ e) in
+    all_true (nat_lt node.0 setup.nodes) (arrives past node input) (is_fresh past input) (not (ends_numbers (state setup node.0 past) input (brought past input)))
+    inside taken.1 taken.2 (no_end _ _ n)
+
+pub IsRun-next : (setup : SetupState) (past : List Entry) (node : NodeId) (input : Input) → IsRun setup past → entry_refusal setup past node input ≡ None → numbers_refusal setup past node input ≡ None
+    → IsRun setup (entry_of setup past node input ∷ past)
+IsRun-next setup past node input run e n = (record { allowed = may_step-from setup past node input e n; outputs = refl }, run)
+
+-- ---- one step of one node
+
+-- the state that is stored for a node
+pub state_stored : (setup : SetupState) (past : List Entry) (nodes : List (Option NodeState)) (messages : List Envelope) (requested : BTreeSet OpId) (n : ℕ)
+    → IsInStep setup past nodes messages requested → n < length nodes → get_or nodes n None ≡ Some (state setup n past)
+state_stored setup past nodes messages requested n h within =
+    let count : length nodes ≡ setup.nodes = ap length h.states_are ∙ length_states setup past in
+    ap (λ (l : List (Option NodeState)). get_or l n None) h.states_are ∙ state_at setup past n (omega arith)
+
+no_numbers : {A : Type 0} (outs : A) (b : Bool) → (Ok outs ≡ Err NumbersEnd ↔ b ≡ true) → cond b (Some (JournalFull Numbers)) None ≡ None
+no_numbers outs true h = let e : Ok outs ≡ Err NumbersEnd = h.1 refl in absurd (cc)
+no_numbers outs false h = refl
+
+pub numbers_taken : {A : Type 0} (outs : A) (setup : SetupState) (past : List Entry) (node : NodeId) (input : Input) (b : Option Brought) → b ≡ brought past input
+    → (Ok outs ≡ Err NumbersEnd ↔ ends_numbers (state setup node.0 past) input b ≡ true) → numbers_refusal setup past node input ≡ None
+numbers_taken outs setup past node input b e h =
+    ap (λ (m : Option Brought). cond (ends_numbers (state setup node.0 past) input m) (Some (JournalFull Numbers)) None) (sym e)
+    ∙ no_numbers outs (ends_numbers (state setup node.0 past) input b) h
+
+numbers_of : (why : StepRefused) (b : Bool) → (IsErrOf {T = List Output} {E = StepRefused} (Err why) NumbersEnd ↔ b ≡ true)
+    → (step_refusal why ≡ OutOfMemory) ⊎ (cond b (Some (JournalFull Numbers)) None ≡ Some (step_refusal why))
+numbers_of NumbersEnd b h = inr (ap (λ v. cond v (Some (JournalFull Numbers)) None) (h.0 refl))
+numbers_of step.OutOfMemory b h = inl refl
+
+pub numbers_refused : (why : StepRefused) (setup : SetupState) (past : List Entry) (node : NodeId) (input : Input) (b : Option Brought) → b ≡ brought past input
+    → (IsErrOf {T = List Output} {E = StepRefused} (Err why) NumbersEnd ↔ ends_numbers (state setup node.0 past) input b ≡ true)
+    → (step_refusal why ≡ OutOfMemory) ⊎ (numbers_refusal setup past node input ≡ Some (step_refusal why))
+numbers_refused why setup past node input b e h =
+    elim (numbers_of why (ends_numbers (state setup node.0 past) input b) h) [
+      | inl o ↦ inl o
+      | inr n ↦ inr (ap (λ (m : Option Brought). cond (ends_numbers (state setup node.0 past) input m) (Some (JournalFull Numbers)) None) (sym e) ∙ n)
+    ]
+
+-- what the node gives, by what was brought
+pub outs_given : (setup : SetupState) (past : List Entry) (node : NodeId) (input : Input) (b : Option Brought) (outs : List Output) → b ≡ brought past input
+    → outs ≡ (node_step (state setup node.0 past) input b).outs → outs ≡ outs_of setup past node input
+outs_given setup past node input b outs e h = h ∙ ap (λ (m : Option Brought). (node_step (state setup node.0 past) input m).outs) e
+
+pub node_given : (setup : SetupState) (past : List Entry) (node : NodeId) (input : Input) (b : Option Brought) (nodes new : List (Option NodeState)) → b ≡ brought past input
+    → new ≡ set nodes node.0 (Some (node_step (state setup node.0 past) input b).node) → new ≡ set nodes node.0 (Some (stepped setup past node input))
+node_given setup past node input b nodes new e h = h ∙ ap (λ (m : Option Brought). set nodes node.0 (Some (node_step (state setup node.0 past) input m).node)) e

@@ -1,0 +1,132 @@
+//! All nodes of a table, and the network between them.
+ghost use Rattle.std.specs.Prelude.{◌≡◌, ◌∷◌, ◌⊎◌, [], Some, None, OnOk, IfOk, IfErr, length};
+ghost use Rattle.node_core.specs.declared.journal.Entry.{Entry};
+ghost use Rattle.world_core.specs.Run.{IsRun, message_at, entry_of};
+ghost use Rattle.world_core.specs.World.{push_refusal, after_refusal, receiver_of};
+
+use crate::PushRefused;
+use crate::envelope::{Envelope, find};
+use crate::parts::{begin_nodes, refusal, take};
+use contract_types::Setup;
+use exec_types::Input;
+use memory::OutOfMemory;
+use node_core::{Journal, Node};
+use region_map::NodeId;
+use register_laws::OpId;
+use std::alloc::Global;
+use std::collections::BTreeSet;
+use std::marker::Model;
+
+/// All nodes of a table, with every message that was sent and the journal of their steps.
+#[derive(Drop)]
+pub struct World {
+    setup: Setup,
+    journal: Journal,
+    nodes: Vec<Option<Node>>,
+    sent: Vec<Envelope>,
+    requested: BTreeSet<OpId>,
+    ended: Option<PushRefused>,
+}
+
+impl Model for World {
+    ghost use Rattle.world_core.specs.World.{WorldState, IsWorld};
+
+    ghost Value = { WorldState };
+
+    ghost view = { λ a. record { setup = a.setup; past = a.journal.past; ended = a.ended } };
+
+    ghost invariant = { λ a. IsWorld a.setup a.journal a.nodes.items a.sent.items a.requested a.ended };
+}
+
+impl World {
+    /// A table as it begins, with no message sent.
+    pub fn begin(alloc: Global, setup: Setup) -> Result<World, OutOfMemory>
+        ensures { IfOk result (λ world. world ≡ record { setup = setup; past = []; ended = None }) }
+    {
+        let nodes = begin_nodes(alloc, &setup)?;
+        Ok(World {
+            setup,
+            journal: Journal::begin(alloc, setup),
+            nodes,
+            sent: Vec::new(alloc),
+            requested: BTreeSet::new(alloc),
+            ended: None,
+        })
+    }
+
+    /// A node is given an input, and steps. The result is the place of the entry in the journal.
+    pub fn push(
+        &mut self,
+        alloc: Global,
+        node: NodeId,
+        input: Input,
+    ) -> Result<u64, PushRefused>
+        ensures taken { OnOk result (push_refusal self.old node input ≡ None) }
+        ensures entry { OnOk result (self.new
+            ≡ record self.old { past = entry_of self.old.setup self.old.past node input ∷ self.old.past }) }
+        ensures place { IfOk result (λ place. place ≡ length self.old.past) }
+        ensures refused { IfErr result (λ why. (why ≡ PushRefused.OutOfMemory)
+            ⊎ (push_refusal self.old node input ≡ Some why)) }
+        ensures after { IfErr result (λ why. self.new ≡ after_refusal self.old why) }
+    {
+        if let Some(why) = self.ended {
+            return Err(why);
+        }
+        if let Some(why) = refusal(
+            &self.setup,
+            &self.sent,
+            &self.requested,
+            node,
+            &input,
+        ) {
+            return Err(why);
+        }
+        let place = self.journal.entries().len() as u64;
+        if let Err(why) = take(
+            &mut self.journal,
+            &mut self.nodes,
+            &mut self.sent,
+            &mut self.requested,
+            alloc,
+            node,
+            input,
+        ) {
+            self.ended = Some(why);
+            return Err(why);
+        }
+        Ok(place)
+    }
+
+    /// The node that the message of a number is for. A world that ended may answer anything.
+    pub fn receiver(&self, message: u64) -> Option<NodeId>
+        ensures { self.now.ended ≡ None → result ≡ receiver_of (message_at self.now.past message) }
+    {
+        match find(&self.sent, message) {
+            Some(envelope) => Some(envelope.to),
+            None => None,
+        }
+    }
+
+    /// What the table began with.
+    pub fn setup(&self) -> Setup
+        ensures { result ≡ self.now.setup }
+    {
+        self.setup
+    }
+
+    /// The steps of all nodes so far, which are a run.
+    pub fn journal(&self) -> &Journal
+        ensures value { result.now ≡ record { setup = Some self.now.setup; past = self.now.past } }
+        ensures run { IsRun self.now.setup self.now.past }
+    {
+        &self.journal
+    }
+
+    /// The steps of all nodes, which are a run.
+    pub fn into_journal(self) -> Journal
+        ensures value { result ≡ record { setup = Some self.setup; past = self.past } }
+        ensures run { IsRun self.setup self.past }
+    {
+        self.journal
+    }
+}
