@@ -1,6 +1,6 @@
 -- What a world keeps beside its journal, as entries come, and which events it refuses.
-use Rattle.std.proofs.Common.{◌≡◌, ◌≢◌, ◌↔◌, ◌⊎◌, Result, Ok, Err, IsErrOf, ◌==◌, ℕ, zero, suc, ◌<◌, Bool, true, false, cond, not, ◌&&◌, ◌||◌, nat_lt, List, [], ◌∷◌, ◌++◌, map, length, set, get_or, Option, Some, None, inl, inr, refl, sym, ap, ◌∙◌, arith}
-use Rattle.std.proofs.lemmas.Bool.{cases_eq, cases_lt, eq-eqb, ne_eqb, lt-ltb, false≢true}
+use Rattle.std.proofs.Common.{◌≡◌, ◌≢◌, ◌↔◌, ◌⊎◌, Ok, Err, IsErrOf, ◌==◌, ℕ, zero, suc, ◌<◌, Bool, true, false, cond, ◌||◌, nat_lt, List, [], ◌∷◌, ◌++◌, map, length, set, get_or, Option, Some, None, inl, inr, refl, sym, ap, ◌∙◌, arith}
+use Rattle.std.proofs.lemmas.Bool.{cases_eq, cases_lt, eq-eqb, ne_eqb}
 use Rattle.std.proofs.lemmas.List.{same_lists, get_or_append_left, get_or-map, get_or-set_same, get_or-set_other, length-map, length-set}
 use Rattle.std.proofs.Math.Seq.{get_or-append_seam}
 use Rattle.std.proofs.Common.{length-append}
@@ -20,9 +20,9 @@ use Rattle.node_core.specs.declared.journal.Entry.{Entry}
 use Rattle.node_core.specs.Step.{NodeState, nodes_below, node_step, ends_numbers}
 use Rattle.world_core.specs.declared.envelope.Envelope.{Envelope}
 use Rattle.world_core.specs.declared.push_refused.PushRefused.{PushRefused}
-use Rattle.world_core.specs.declared.push_refused.PushRefused.TheVariants.{NoSuchNode, NoSuchMessage, NotYours, OpKnown, JournalFull, OutOfMemory}
-use Rattle.world_core.specs.Run.{IsRun, sent, sent_by, brought, state, requests, is_requested, is_fresh, is_to, message_at, arrives, may_step, outs_of, entry_of}
-use Rattle.world_core.specs.World.{states, step_refusal, numbers_refusal, owner_refusal, input_refusal, entry_refusal, event_refusal, op_cmp, AreRequested, IsInStep}
+use Rattle.world_core.specs.declared.push_refused.PushRefused.TheVariants.{NoSuchNode, NotYours, OpKnown, JournalFull, OutOfMemory}
+use Rattle.world_core.specs.Run.{sent_by, brought, state, requests, is_requested, message_at, outs_of, entry_of}
+use Rattle.world_core.specs.World.{WorldState, states, step_refusal, numbers_refusal, owner_refusal, input_refusal, entry_refusal, event_refusal, unless_ended, push_refusal, op_cmp, IsInStep}
 
 -- ---- lists by the numbers of nodes
 
@@ -56,15 +56,15 @@ set_map_below f g n i v h here others =
     let counts : length (set (map f (nodes_below n)) i v) ≡ n = length-set (map f (nodes_below n)) i v ∙ count in
     same_lists (set (map f (nodes_below n)) i v) (map g (nodes_below n)) (counts ∙ sym (length_map_below g n))
     (λ k d within.
-        let below : k < n = omega arith in
-        elim (cases_eq k i) [
-          | inl same ↦
-              ap (λ m. get_or (set (map f (nodes_below n)) i v) m d) same ∙ get_or-set_same (map f (nodes_below n)) i v d (omega arith)
-              ∙ here ∙ ap g (sym same) ∙ sym (get_map_below g n k d below)
-          | inr other ↦
-              get_or-set_other (map f (nodes_below n)) i k v d other ∙ get_map_below f n k d below ∙ others k other
-              ∙ sym (get_map_below g n k d below)
-        ])
+    let below : k < n = omega arith in
+    elim (cases_eq k i) [
+      | inl same ↦
+          ap (λ m. get_or (set (map f (nodes_below n)) i v) m d) same ∙ get_or-set_same (map f (nodes_below n)) i v d (omega arith)
+          ∙ here ∙ ap g (sym same) ∙ sym (get_map_below g n k d below)
+      | inr other ↦
+          get_or-set_other (map f (nodes_below n)) i k v d other ∙ get_map_below f n k d below ∙ others k other
+          ∙ sym (get_map_below g n k d below)
+    ])
 
 -- ---- one more entry
 
@@ -80,8 +80,8 @@ states-next setup past node input h =
     set_map_below f g setup.nodes node.0 (Some (stepped setup past node input)) h
     (ap (λ b. Some (cond b (stepped setup past node input) (state setup node.0 past))) (sym (eq-eqb node.0 node.0 refl)))
     (λ k other.
-        ap (λ b. Some (cond b (node_step (state setup k past) input (brought past input)).node (state setup k past)))
-        (sym (ne_eqb node.0 k (λ e. other (sym e)))))
+    ap (λ b. Some (cond b (node_step (state setup k past) input (brought past input)).node (state setup k past)))
+    (sym (ne_eqb node.0 k (λ e. other (sym e)))))
 
 pub state_at : (setup : SetupState) (past : List Entry) (n : ℕ) → n < setup.nodes → get_or (states setup past) n None ≡ Some (state setup n past)
 state_at setup past n h = get_map_below (λ (k : ℕ). Some (state setup k past)) setup.nodes n None h
@@ -105,25 +105,6 @@ IsInStep-next setup past node input nodes new messages more requested noted h wi
 
 -- ---- refusals
 
--- an input that is not refused may go to its node, where the limit of the numbers lets it
-input_taken : (past : List Entry) (node : NodeId) (input : Input) (later : Option PushRefused) → input_refusal past node input None ≡ None
-    → (input_refusal past node input later ≡ later) × (arrives past node input ≡ true) × (is_fresh past input ≡ true)
-input_taken past node (Request op key what) later =
-    elim (is_requested past op) as (λ c. cond c (Some OpKnown) None ≡ None → (cond c (Some OpKnown) later ≡ later) × (true ≡ true) × (not c ≡ true)) [
-      | true ↦ λ e. absurd (cc)
-      | false ↦ λ e. (refl, refl, refl)
-    ]
-input_taken past node (GiveUp op) later = λ e. (refl, refl, refl)
-input_taken past node (Deliver number) later =
-    elim (message_at past number) as (λ m. owner_refusal m node None ≡ None → (owner_refusal m node later ≡ later) × (is_to m node ≡ true) × (true ≡ true)) [
-      | None ↦ λ e. absurd (cc)
-      | Some m ↦
-          elim (m.to.0 == node.0) as (λ c. cond c None (Some NotYours) ≡ None → (cond c later (Some NotYours) ≡ later) × (c ≡ true) × (true ≡ true)) [
-            | true ↦ λ e. (refl, refl, refl)
-            | false ↦ λ e. absurd (cc)
-          ]
-    ]
-
 input_refused : (past : List Entry) (node : NodeId) (input : Input) (later : Option PushRefused) (why : PushRefused) → input_refusal past node input None ≡ Some why
     → input_refusal past node input later ≡ Some why
 input_refused past node (Request op key what) later why =
@@ -142,7 +123,7 @@ input_refused past node (Deliver number) later why =
           ]
     ]
 
-pub event_refused : (setup : SetupState) (past : List Entry) (node : NodeId) (input : Input) (why : PushRefused) → entry_refusal setup past node input ≡ Some why
+event_refused : (setup : SetupState) (past : List Entry) (node : NodeId) (input : Input) (why : PushRefused) → entry_refusal setup past node input ≡ Some why
     → event_refusal setup past node input ≡ Some why
 event_refused setup past node input why =
     elim (nat_lt node.0 setup.nodes) as (λ c. cond c (input_refusal past node input None) (Some NoSuchNode) ≡ Some why → cond c (input_refusal past node input (numbers_refusal setup past node input)) (Some NoSuchNode) ≡ Some why) [
@@ -150,13 +131,11 @@ event_refused setup past node input why =
       | false ↦ λ e. e
     ]
 
-pub event_at_step : (setup : SetupState) (past : List Entry) (node : NodeId) (input : Input) → entry_refusal setup past node input ≡ None
-    → event_refusal setup past node input ≡ numbers_refusal setup past node input
-event_at_step setup past node input =
-    elim (nat_lt node.0 setup.nodes) as (λ c. cond c (input_refusal past node input None) (Some NoSuchNode) ≡ None → cond c (input_refusal past node input (numbers_refusal setup past node input)) (Some NoSuchNode) ≡ numbers_refusal setup past node input) [
-      | true ↦ λ e. (input_taken past node input (numbers_refusal setup past node input) e).0
-      | false ↦ λ e. absurd (cc)
-    ]
+pub push_refused : (w : WorldState) (setup : SetupState) (past : List Entry) (ended : Option PushRefused) (node : NodeId) (input : Input) (why : PushRefused)
+    → record { setup = setup; past = past; ended = ended } ≡ w → ended ≡ None → entry_refusal setup past node input ≡ Some why → push_refusal w node input ≡ Some why
+push_refused w setup past ended node input why e n h =
+    ap (λ (v : WorldState). push_refusal v node input) (sym e) ∙ ap (λ (o : Option PushRefused). unless_ended o (event_refusal setup past node input)) n
+    ∙ event_refused setup past node input why h
 
 -- the node of an event that is not refused is one of the table
 pub within_table : (setup : SetupState) (past : List Entry) (node : NodeId) (input : Input) → entry_refusal setup past node input ≡ None → nat_lt node.0 setup.nodes ≡ true
@@ -165,25 +144,6 @@ within_table setup past node input =
       | true ↦ λ e. refl
       | false ↦ λ e. absurd (cc)
     ]
-
-no_end : (b : Bool) (why : PushRefused) → cond b (Some why) None ≡ None → not b ≡ true
-no_end true why e = absurd (cc)
-no_end false why e = refl
-
-all_true : (a b c d : Bool) → a ≡ true → b ≡ true → c ≡ true → d ≡ true → (a && b && c && d) ≡ true
-all_true a b c d p q r s = grind arith
-
-may_step-from : (setup : SetupState) (past : List Entry) (node : NodeId) (input : Input) → entry_refusal setup past node input ≡ None → numbers_refusal setup past node input ≡ None
-    → may_step setup past node input ≡ true
-may_step-from setup past node input e n =
-    let inside : nat_lt node.0 setup.nodes ≡ true = within_table setup past node input e in
-    let taken = input_taken past node input None (sym (ap (λ c. cond c (input_refusal past node input None) (Some NoSuchNode)) inside) ∙ e) in
-    all_true (nat_lt node.0 setup.nodes) (arrives past node input) (is_fresh past input) (not (ends_numbers (state setup node.0 past) input (brought past input)))
-    inside taken.1 taken.2 (no_end _ _ n)
-
-pub IsRun-next : (setup : SetupState) (past : List Entry) (node : NodeId) (input : Input) → IsRun setup past → entry_refusal setup past node input ≡ None → numbers_refusal setup past node input ≡ None
-    → IsRun setup (entry_of setup past node input ∷ past)
-IsRun-next setup past node input run e n = (record { allowed = may_step-from setup past node input e n; outputs = refl }, run)
 
 -- ---- one step of one node
 

@@ -60,7 +60,11 @@ fn step_node(
 }
 
 /// The message that a delivery brings.
-fn bring(alloc: Global, messages: &[Envelope], input: &Input) -> Result<Option<Brought>, OutOfMemory>
+fn bring(
+    alloc: Global,
+    messages: &[Envelope],
+    input: &Input,
+) -> Result<Option<Brought>, OutOfMemory>
     ensures { (past : List Entry) → messages.now ≡ sent past → IfOk result (λ found. found ≡ brought past input.now) }
 {
     match input {
@@ -139,18 +143,18 @@ pub(crate) fn take(
     ensures entry { (setup : SetupState)
         → IsInStep setup journal.old.past nodes.old.items messages.old.items requested.old
         → OnOk result (journal.new
-            ≡ record journal.old { past = entry_of setup journal.old.past node input ∷ journal.old.past }) }
+        ≡ record journal.old { past = entry_of setup journal.old.past node input ∷ journal.old.past }) }
     ensures in_step { (setup : SetupState)
         → IsInStep setup journal.old.past nodes.old.items messages.old.items requested.old
         → OnOk result (IsInStep setup (entry_of setup journal.old.past node input ∷ journal.old.past)
-            nodes.new.items messages.new.items requested.new) }
+        nodes.new.items messages.new.items requested.new) }
     ensures taken { (setup : SetupState)
         → IsInStep setup journal.old.past nodes.old.items messages.old.items requested.old
         → OnOk result (numbers_refusal setup journal.old.past node input ≡ None) }
     ensures refused { (setup : SetupState)
         → IsInStep setup journal.old.past nodes.old.items messages.old.items requested.old
         → IfErr result (λ why. (why ≡ PushRefused.OutOfMemory)
-            ⊎ (numbers_refusal setup journal.old.past node input ≡ Some why)) }
+        ⊎ (numbers_refusal setup journal.old.past node input ≡ Some why)) }
     ensures ends { IfErr result (λ why. is_final why ≡ true) }
     ensures kept { OnErr result (journal.new ≡ journal.old) }
 {

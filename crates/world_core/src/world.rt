@@ -55,12 +55,7 @@ impl World {
     }
 
     /// A node is given an input, and steps. The result is the place of the entry in the journal.
-    pub fn push(
-        &mut self,
-        alloc: Global,
-        node: NodeId,
-        input: Input,
-    ) -> Result<u64, PushRefused>
+    pub fn push(&mut self, alloc: Global, node: NodeId, input: Input) -> Result<u64, PushRefused>
         ensures taken { OnOk result (push_refusal self.old node input ≡ None) }
         ensures entry { OnOk result (self.new
             ≡ record self.old { past = entry_of self.old.setup self.old.past node input ∷ self.old.past }) }
@@ -72,13 +67,7 @@ impl World {
         if let Some(why) = self.ended {
             return Err(why);
         }
-        if let Some(why) = refusal(
-            &self.setup,
-            &self.sent,
-            &self.requested,
-            node,
-            &input,
-        ) {
+        if let Some(why) = refusal(&self.setup, &self.sent, &self.requested, node, &input) {
             return Err(why);
         }
         let place = self.journal.entries().len() as u64;
@@ -97,7 +86,7 @@ impl World {
         Ok(place)
     }
 
-    /// The node that the message of a number is for. A world that ended may answer anything.
+    /// The node that the message of a number is for. Of a world that ended nothing is said.
     pub fn receiver(&self, message: u64) -> Option<NodeId>
         ensures { self.now.ended ≡ None → result ≡ receiver_of (message_at self.now.past message) }
     {

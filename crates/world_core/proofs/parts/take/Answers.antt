@@ -1,13 +1,10 @@
 -- What a step gives, as the journal says it: the message that is brought, and the state of the node.
-use Rattle.std.proofs.Common.{◌≡◌, ◌<◌, List, ◌∷◌, ◌++◌, Option, Some, None, get_or, length, ap, ◌∙◌}
+use Rattle.std.proofs.Common.{◌≡◌, List, ◌∷◌, ◌++◌, Some, None, get_or, ap, ◌∙◌}
 use Rattle.std.proofs.lemmas.Result.{err_from_is_err_and}
 use Rattle.contract_types.specs.Setup.{SetupState}
 use Rattle.exec_types.specs.declared.output.Output.{Output}
-use Rattle.node_core.specs.declared.journal.Entry.{Entry}
-use Rattle.node_core.specs.declared.node.Brought.{Brought}
 use Rattle.node_core.specs.Journal.{JournalState}
 use Rattle.world_core.specs.Run.{brought, state, outs_of, sent_by}
-use Rattle.world_core.specs.World.{IsInStep}
 use Rattle.world_core.proofs.States.{state_stored, numbers_taken, numbers_refused, outs_given, node_given, IsInStep-next}
 use Rattle.world_core.proofs.parts.take.Goals as goal
 
