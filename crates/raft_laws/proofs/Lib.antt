@@ -1,0 +1,4 @@
+pub mod Logs
+pub mod Past
+pub mod Claims
+pub mod Completeness
