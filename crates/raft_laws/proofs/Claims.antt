@@ -118,16 +118,23 @@ pub record Rival {E : Type 0} (p : Past E) (term : ℕ) (b : Ballot E) : Type 0 
   pub reaches : reaches (last_term ballot.log) (length ballot.log) (last_term b.log) (length b.log) ≡ true
 
 pub record BallotOk {E : Type 0} (p : Past E) (k term : ℕ) (b : Ballot E) : Type 0 where
-  pub below : (i : ℕ) → i ≤ length b.log → term_at b.log i < term
   pub grounded : Grounded p b.log
   pub rival : Rival p term b
-  pub acked : (early : ℕ) → early < term → 0 < p.acks k early → Holds p early (p.acks k early) term b.log
+  pub acked : (early : ℕ) → early < term → 0 < p.acks k early → Holds p early (p.acks k early) b.bound b.log
+  pub fresh : (b.bound ≡ term) ⊎ ((r : Reign E) × (p.reigns term ≡ Some r))
+
+-- a vote that was cast before the term had a leader
+pub record CastEarly {E : Type 0} (p : Past E) (k term : ℕ) (c : NodeId) : Type 0 where
+  pub cast : Cast p k term c
+  pub early : cast.ballot.bound ≡ term
 
 pub record ReignOk {E : Type 0} (nodes : List ℕ) (p : Past E) (term : ℕ) (r : Reign E) : Type 0 where
   pub votes : List ℕ
   pub majority : is_majority votes nodes ≡ true
-  pub voted : (k : ℕ) → has votes k ≡ true → Cast p k term (node_id r.leader)
-  pub own : p.ballots r.leader term ≡ Some (record { for_node = node_id r.leader; log = r.won })
+  pub voted : (k : ℕ) → has votes k ≡ true → CastEarly p k term (node_id r.leader)
+  pub bound : ℕ
+  pub own : p.ballots r.leader term ≡ Some (record { for_node = node_id r.leader; log = r.won; bound = bound })
+  pub below : (i : ℕ) → i ≤ length r.won → term_at r.won i < term
   pub rest : List (LogEntry E)
   pub is : r.log ≡ r.won ++ rest
   pub rises : Rises r.log
@@ -145,13 +152,16 @@ module _ {E : Type 0} (p q : Past E) (g : Grows p q) where
   pub BallotOk-grows : (k term : ℕ) (b : Ballot E) → ((early : ℕ) → early < term → q.acks k early ≡ p.acks k early) → BallotOk p k term b → BallotOk q k term b
   BallotOk-grows k term b same o =
       record {
-        below = o.below;
         grounded = Grounded-grows p q b.log g o.grounded;
         rival = Rival-grows term b o.rival;
         acked = λ early l h.
             let s = same early l in
             let held = o.acked early l (omega (arith, s, h)) in
-            subst (λ (u : ℕ). Holds q early u term b.log) (sym s) (Holds-grows p q g early (p.acks k early) term b.log held);
+            subst (λ (u : ℕ). Holds q early u b.bound b.log) (sym s) (Holds-grows p q g early (p.acks k early) b.bound b.log held);
+        fresh = elim o.fresh [
+          | inl e ↦ inl e
+          | inr led ↦ let new = g.reigns term led.0 led.1 in inr (record { leader = led.0.leader; won = led.0.won; log = led.0.log ++ new.rest }, new.is)
+        ];
       }
 
   pub ReignOk-grows : (nodes : List ℕ) (term : ℕ) (r : Reign E) → ReignOk nodes p term r → ReignOk nodes q term r
@@ -159,8 +169,12 @@ module _ {E : Type 0} (p q : Past E) (g : Grows p q) where
       record {
         votes = o.votes;
         majority = o.majority;
-        voted = λ k h. Cast-grows p q k term (node_id r.leader) g (o.voted k h);
+        voted = λ k h.
+            let old = o.voted k h in
+            record { cast = record { ballot = old.cast.ballot; is = g.ballots k term old.cast.ballot old.cast.is; self = old.cast.self }; early = old.early };
+        bound = o.bound;
         own = g.ballots r.leader term _ o.own;
+        below = o.below;
         rest = o.rest;
         is = o.is;
         rises = o.rises;

@@ -32,7 +32,7 @@ module _ {E : Type 0} where
   one_ballot p k term a b x y = let both : Some a ≡ Some b = sym x ∙ y in cc
 
   -- a log that is grounded rises to its end
-  last_rises : (nodes : List ℕ) (p : Past E) → PastOk nodes p → (log : List (LogEntry E)) → Grounded p log → (j : ℕ) → 0 < j → j ≤ length log → term_at log j ≤ last_term log
+  pub last_rises : (nodes : List ℕ) (p : Past E) → PastOk nodes p → (log : List (LogEntry E)) → Grounded p log → (j : ℕ) → 0 < j → j ≤ length log → term_at log j ≤ last_term log
   last_rises nodes p ok log s j h l =
       let source = s.at (length log) (omega (arith, h, l)) (omega arith) in
       let reign = ok.reigns (last_term log) source.reign source.is in
@@ -103,21 +103,22 @@ module _ {E : Type 0} (nodes : List ℕ) (p : Past E) (ok : PastOk nodes p) wher
       let reign = ok.reigns later r is in
       let both = majorities_meet reign.votes d.holders nodes reign.majority d.majority in
       let k = both.0 in
-      let cast = reign.voted k both.2 in
+      let voted = reign.voted k both.2 in
+      let cast = voted.cast in
       let ack = d.each k both.3 in
       let positive = d.positive in
       let ballot = ok.ballots k later cast.ballot cast.is in
-      let held = ballot.acked term l (omega (arith, ack, positive)) in
+      let held = subst (λ (v : ℕ). Holds p term (p.acks k term) v cast.ballot.log) voted.early (ballot.acked term l (omega (arith, ack, positive))) in
       let one : held.reign ≡ d.reign = one_reign p term held.reign d.reign held.is d.is in
       let between : Between p term later index held.reign.log =
       record { at = λ t x a b e. had t x a b e ∙ ap (λ (y : Reign E). take index y.log) (sym one) } in
       let has_it : take index cast.ballot.log ≡ take index d.reign.log = held.keeps index ack between ∙ ap (λ (y : Reign E). take index y.log) one in
-      let winner = ok.ballots r.leader later (record { for_node = node_id r.leader; log = r.won }) reign.own in
+      let winner = ok.ballots r.leader later (record { for_node = node_id r.leader; log = r.won; bound = reign.bound }) reign.own in
       let rival_is : p.ballots r.leader later ≡ Some ballot.rival.ballot = ap (λ (c : NodeId). p.ballots c.0 later) (sym cast.self) ∙ ballot.rival.is in
-      let same : ballot.rival.ballot ≡ record { for_node = node_id r.leader; log = r.won } = one_ballot p r.leader later ballot.rival.ballot (record { for_node = node_id r.leader; log = r.won }) rival_is reign.own in
+      let same : ballot.rival.ballot ≡ record { for_node = node_id r.leader; log = r.won; bound = reign.bound } = one_ballot p r.leader later ballot.rival.ballot (record { for_node = node_id r.leader; log = r.won; bound = reign.bound }) rival_is reign.own in
       let reach : reaches (last_term r.won) (length r.won) (last_term cast.ballot.log) (length cast.ballot.log) ≡ true =
       ap (λ (b : Ballot E). reaches (last_term b.log) (length b.log) (last_term cast.ballot.log) (length cast.ballot.log)) (sym same) ∙ ballot.rival.reaches in
-      reached term index d later r.won had winner.grounded winner.below cast.ballot.log ballot.grounded has_it reach
+      reached term index d later r.won had winner.grounded reign.below cast.ballot.log ballot.grounded has_it reach
 
   upto_bound : (term index : ℕ) (d : Decided nodes p term index) (bound : ℕ) → IsHad term index d bound
   upto_bound term index d zero later r l h is = absurd (omega (arith, h))

@@ -3,3 +3,6 @@ pub mod Past
 pub mod Claims
 pub mod Completeness
 pub mod Nodes
+pub mod Ghosts
+pub mod Moves
+pub mod Leading

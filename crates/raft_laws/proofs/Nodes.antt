@@ -14,9 +14,10 @@ use Rattle.raft_vote.specs.State.{VoteState}
 use Rattle.raft_append.specs.declared.peers.Progress.{Progress}
 use Rattle.raft_append.specs.Peers.{progress_at}
 use Rattle.raft_node.specs.State.{RaftState}
+use Rattle.schedule_laws.proofs.Lists.{All-append, All-weaker}
 use Rattle.raft_laws.specs.World.{Sent, World}
 use Rattle.raft_laws.proofs.Logs.{as_long, front_of, IsUpTo}
-use Rattle.raft_laws.proofs.Past.{Past, Ballot, Reign, Cast, Cast-grows, Grows, Grows-more, Grounded, Grounded-grows, for_whom}
+use Rattle.raft_laws.proofs.Past.{Past, Ballot, Reign, Cast, Cast-grows, Grows, Grows-same, Grows-more, Grounded, Grounded-grows, for_whom}
 use Rattle.raft_laws.proofs.Claims.{Between, Holds, Holds-grows, Certified, Certified-grows, Certified-other, Certified-within, PastOk}
 
 abbrev pub is_candidate : Role → Bool
@@ -27,7 +28,9 @@ is_candidate Leader = false
 -- a candidate: the votes that it counts were cast for it, one of them by itself with the log that it has
 pub record Stands {E : Type 0} (p : Past E) (n term : ℕ) (log : List (LogEntry E)) (votes : List ℕ) : Type 0 where
   pub counted : (k : ℕ) → has votes k ≡ true → Cast p k term (node_id n)
-  pub own : p.ballots n term ≡ Some (record { for_node = node_id n; log = log })
+  pub bound : ℕ
+  pub own : p.ballots n term ≡ Some (record { for_node = node_id n; log = log; bound = bound })
+  pub below : (i : ℕ) → i ≤ length log → term_at log i < term
 
 -- a leader: its log is that of the term, and it knows of each node no more than that node said
 pub record Leads {E : Type 0} (p : Past E) (n term : ℕ) (log : List (LogEntry E)) (peers : List Progress) : Type 0 where
@@ -120,7 +123,7 @@ module _ {E : Type 0} (nodes : List ℕ) (p q : Past E) (g : Grows p q) where
   IsSo-grows from to (AppendSay term false upto) s = tt
 
   pub Stands-grows : (n term : ℕ) (log : List (LogEntry E)) (votes : List ℕ) → Stands p n term log votes → Stands q n term log votes
-  Stands-grows n term log votes s = record { counted = λ k h. Cast-grows p q k term (node_id n) g (s.counted k h); own = g.ballots n term _ s.own }
+  Stands-grows n term log votes s = record { counted = λ k h. Cast-grows p q k term (node_id n) g (s.counted k h); bound = s.bound; own = g.ballots n term _ s.own; below = s.below }
 
 -- ---- what changes at one node alone
 
@@ -182,4 +185,62 @@ module _ {E : Type 0} (nodes : List ℕ) (n : ℕ) (p q : Past E) (b : Beside n 
               holds = subst (λ (u : ℕ). Holds q t u (suc s.votes.term) s.log) (sym same) (Holds-grows p q b.grows t (p.acks k t) (suc s.votes.term) s.log old.holds);
             };
         seen = λ h. Certified-grows p q b.grows nodes s.votes.term s.log s.view (o.seen h);
+      }
+
+-- ---- a node amid the others
+
+-- node n has come to s, the others are as in the world w, and these messages were ever sent
+pub record Here {E : Type 0} (nodes : List ℕ) (w : World E) (n : ℕ) (p : Past E) (s : RaftState E) (sent : List (Sent E)) : Type 0 where
+  pub self : NodeOk nodes p n s
+  pub others : (k : ℕ) → k == n ≡ false → NodeOk nodes p k (w.node k)
+  pub past : PastOk nodes p
+  pub said : AllByRecursion (λ (m : Sent E). IsSo nodes p m.from m.to m.message) sent
+
+-- the same with a past that has grown from p
+pub record Comes {E : Type 0} (nodes : List ℕ) (w : World E) (n : ℕ) (p : Past E) (s : RaftState E) (sent : List (Sent E)) : Type 0 where
+  pub now : Past E
+  pub grows : Grows p now
+  pub here : Here nodes w n now s sent
+
+module _ {E : Type 0} (nodes : List ℕ) (w : World E) (n : ℕ) where
+  pub stay : (p : Past E) (s : RaftState E) (sent : List (Sent E)) → Here nodes w n p s sent → Comes nodes w n p s sent
+  stay p s sent h = record { now = p; grows = Grows-same p; here = h }
+
+  -- one move after another
+  pub go_on : (p : Past E) (s t : RaftState E) (xs ys : List (Sent E)) → Comes nodes w n p s xs → ((q : Past E) → Grows p q → Here nodes w n q s xs → Comes nodes w n q t ys) → Comes nodes w n p t ys
+  go_on p s t xs ys c f =
+      let d = f c.now c.grows c.here in
+      record { now = d.now; grows = Grows-more p c.now d.now c.grows d.grows; here = d.here }
+
+  -- a move that leaves the past as it is
+  pub goes_to : (p : Past E) (s t : RaftState E) (xs : List (Sent E)) → ((q : Past E) → Grows p q → PastOk nodes q → NodeOk nodes q n s → NodeOk nodes q n t) → Comes nodes w n p s xs → Comes nodes w n p t xs
+  goes_to p s t xs f c =
+      record { now = c.now; grows = c.grows; here = record { self = f c.now c.grows c.here.past c.here.self; others = c.here.others; past = c.here.past; said = c.here.said } }
+
+  -- what the node sends is so
+  pub sends : (p : Past E) (s : RaftState E) (xs ys : List (Sent E)) → ((q : Past E) → Grows p q → NodeOk nodes q n s → AllByRecursion (λ (m : Sent E). IsSo nodes q m.from m.to m.message) ys) → Comes nodes w n p s xs → Comes nodes w n p s (xs ++ ys)
+  sends p s xs ys f c =
+      record {
+        now = c.now;
+        grows = c.grows;
+        here = record {
+          self = c.here.self;
+          others = c.here.others;
+          past = c.here.past;
+          said = All-append (λ (m : Sent E). IsSo nodes c.now m.from m.to m.message) xs ys c.here.said (f c.now c.grows c.here.self);
+        };
+      }
+
+  -- a past that changes for this node alone
+  pub moves : (p q : Past E) (s t : RaftState E) (xs : List (Sent E)) → Beside n p q → PastOk nodes q → NodeOk nodes q n t → Here nodes w n p s xs → Comes nodes w n p t xs
+  moves p q s t xs b ok self h =
+      record {
+        now = q;
+        grows = b.grows;
+        here = record {
+          self = self;
+          others = λ k other. NodeOk-beside nodes n p q b k other (w.node k) (h.others k other);
+          past = ok;
+          said = All-weaker (λ (m : Sent E). IsSo nodes p m.from m.to m.message) (λ (m : Sent E). IsSo nodes q m.from m.to m.message) xs (λ m. IsSo-grows nodes p q b.grows m.from m.to m.message) h.said;
+        };
       }

@@ -11,10 +11,11 @@ use Rattle.raft_vote.specs.Log.{term_at, last_term}
 use Rattle.raft_vote.specs.Rows.{reaches}
 use Rattle.raft_laws.proofs.Logs.{term_at-append, term_at_last, term_at-take, same_terms, shorter, as_long, front_of, Rises, IsUpTo, Match}
 
--- a vote, and the log that the voter had
+-- a vote, the log that the voter had, and the term from which on no leader had changed that log
 pub record Ballot (E : Type 0) : Type 0 where
   pub for_node : NodeId
   pub log : List (LogEntry E)
+  pub bound : ℕ
 
 -- the leader of a term, its log as it won, and its log as it last was
 pub record Reign (E : Type 0) : Type 0 where
