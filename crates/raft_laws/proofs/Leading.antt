@@ -155,17 +155,102 @@ module _ {E : Type 0} (nodes : List ℕ) (w : World E) (n : ℕ) (p : Past E) (s
       })
       here
 
-leads_of : {E : Type 0} (p : Past E) (n : ℕ) (r : Role) (term : ℕ) (log : List (LogEntry E)) (peers : List Progress) → is_leader r ≡ true → RoleOk p n r term log peers → Leads p n term log peers
+pub leads_of : {E : Type 0} (p : Past E) (n : ℕ) (r : Role) (term : ℕ) (log : List (LogEntry E)) (peers : List Progress) → is_leader r ≡ true → RoleOk p n r term log peers → Leads p n term log peers
 leads_of p n Follower term log peers e o = absurd (cc e)
 leads_of p n (Candidate votes refused) term log peers e o = absurd (cc e)
 leads_of p n Leader term log peers e o = o
 
-of_leads : {E : Type 0} (p : Past E) (n : ℕ) (r : Role) (term : ℕ) (log : List (LogEntry E)) (peers : List Progress) → is_leader r ≡ true → Leads p n term log peers → RoleOk p n r term log peers
+pub of_leads : {E : Type 0} (p : Past E) (n : ℕ) (r : Role) (term : ℕ) (log : List (LogEntry E)) (peers : List Progress) → is_leader r ≡ true → Leads p n term log peers → RoleOk p n r term log peers
 of_leads p n Follower term log peers e o = tt
 of_leads p n (Candidate votes refused) term log peers e o = absurd (cc e)
 of_leads p n Leader term log peers e o = o
 
-not_candidate : (r : Role) → is_leader r ≡ true → is_candidate r ≡ false
+pub not_candidate : (r : Role) → is_leader r ≡ true → is_candidate r ≡ false
 not_candidate Follower e = refl
 not_candidate (Candidate votes refused) e = absurd (cc e)
 not_candidate Leader e = refl
+
+module _ {E : Type 0} (nodes : List ℕ) (w : World E) (n : ℕ) (p : Past E) (s : RaftState E) (xs : List (Sent E)) (here : Here nodes w n p s xs) (leading : is_leader s.votes.role ≡ true) where
+  -- a leader appends an entry
+  pub appends : (change : E) → Comes nodes w n p (with_entry s change) xs
+  appends change =
+      let o = here.self in
+      let t = s.votes.term in
+      let x : LogEntry E = record { term = t; change = change } in
+      let log = s.log ++ x ∷ [] in
+      let l = leads_of p n s.votes.role t s.log s.peers leading o.role in
+      let old_reign : Reign E = record { leader = n; won = l.won; log = s.log } in
+      let old_ok = here.past.reigns t old_reign l.is in
+      let r : Reign E = record { leader = n; won = l.won; log = log } in
+      let q = with_reign p n t r refl in
+      let longer : IsLonger p n t r refl =
+      record { at = λ y e. let same = one_reign p t y old_reign e l.is in (x ∷ [], ap (λ (z : Reign E). record { leader = z.leader; won = z.won; log = z.log ++ x ∷ [] }) (sym same)) } in
+      let beside = with_reign-beside p n t r refl longer in
+      let g = beside.grows in
+      let at = with_reign-at p n t r refl in
+      let grounded : Grounded q log = Grounded-push q s.log x r at refl (Grounded-grows p q s.log g o.grounded) in
+      let before = ReignOk-grows p q g nodes t old_reign old_ok in
+      let reign_ok : ReignOk nodes q t r =
+      record {
+        votes = before.votes;
+        majority = before.majority;
+        voted = before.voted;
+        bound = before.bound;
+        own = before.own;
+        below = before.below;
+        rest = before.rest ++ x ∷ [];
+        is = ap (λ (y : List (LogEntry E)). y ++ x ∷ []) before.is ∙ append_assoc l.won before.rest (x ∷ []);
+        rises = Rises-push s.log x before.rises before.upto;
+        upto = IsUpTo-push s.log x before.upto;
+        grounded = grounded;
+      } in
+      let ok = with_reign-past p n t r refl nodes longer reign_ok here.past in
+      let long : length log ≡ length s.log + 1 = omega (arith, length-append s.log (x ∷ [])) in
+      let u = with_ack q n t (length log) in
+      let beside2 = with_ack-beside q n t (length log) in
+      let ok2 = with_ack-past q n t (length log) nodes o.later ok in
+      let acked_now : u.acks n t ≡ max (p.acks n t) (length log) = with_ack-at q n t (length log) in
+      let old_ack : p.acks n t ≤ length s.log = elim (cases_lt 0 (p.acks n t)) [
+        | inl some ↦
+            let old = (o.acked t some).holds in
+            let same = one_reign p t old.reign old_reign old.is l.is in
+            let within = old.within in
+            let e : length old.reign.log ≡ length s.log = ap (λ (z : Reign E). length z.log) same in
+            omega (arith, within, e)
+        | inr zero_at ↦ omega (arith, zero_at)
+      ] in
+      let both = Beside-more n p q u beside beside2 in
+      let acks_grow = both.grows.acks in
+      moves nodes w n p u s (with_entry s change) xs both ok2
+      (record {
+        me = o.me;
+        all = o.all;
+        now = o.now;
+        later = o.later;
+        role = of_leads u n s.votes.role t log s.peers leading
+            (record { won = l.won; is = at; mine = omega (arith, acked_now); matched = λ k. let m = l.matched k in let a = acks_grow k t in omega (arith, m, a) });
+        grounded = Grounded-grows q u log beside2.grows grounded;
+        upto = IsUpTo-push s.log x o.upto;
+        led = λ v y e own.
+            elim (cases_eq v t) [
+              | inl same ↦ inr (same, not_candidate s.votes.role leading)
+              | inr ne ↦ o.led v y (sym (with_reign-term p n t r refl v ne) ∙ e) own
+            ];
+        acked = λ v a.
+            elim (cases_eq v t) [
+              | inl same ↦
+                  let e : u.acks n v ≡ length log = ap (u.acks n) same ∙ acked_now ∙ (let m : max (p.acks n t) (length log) ≡ length log = omega (arith, old_ack, long) in m) in
+                  record {
+                    low = omega (arith, same);
+                    holds = record { reign = r; is = ap u.reigns same ∙ at; within = omega (arith, e); keeps = λ i h b. refl };
+                  }
+              | inr ne ↦
+                  let e = with_ack-term q n t (length log) v ne in
+                  let old = o.acked v (omega (arith, e, a)) in
+                  record { low = old.low; holds = subst (λ (i : ℕ). Holds u v i (suc t) log) (sym e) (Holds-more u v (p.acks n v) (suc t) s.log (x ∷ []) (Holds-grows p u both.grows v (p.acks n v) (suc t) s.log old.holds)) }
+            ];
+        seen = λ h.
+            let c = o.seen h in
+            Certified-other nodes u t t s.log log s.view (omega arith) (front_of s.log (x ∷ []) s.view (Certified-within nodes p t s.log s.view c)) (Certified-grows p u both.grows nodes t s.log s.view c);
+      })
+      here

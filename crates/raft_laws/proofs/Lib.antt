@@ -6,3 +6,5 @@ pub mod Nodes
 pub mod Ghosts
 pub mod Moves
 pub mod Leading
+pub mod Following
+pub mod Counting

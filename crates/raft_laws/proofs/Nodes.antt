@@ -231,6 +231,15 @@ module _ {E : Type 0} (nodes : List ℕ) (w : World E) (n : ℕ) where
         };
       }
 
+  -- what the node sends is so now
+  pub sends_now : (p : Past E) (s : RaftState E) (xs ys : List (Sent E)) (c : Comes nodes w n p s xs) → AllByRecursion (λ (m : Sent E). IsSo nodes c.now m.from m.to m.message) ys → Comes nodes w n p s (xs ++ ys)
+  sends_now p s xs ys c so =
+      record {
+        now = c.now;
+        grows = c.grows;
+        here = record { self = c.here.self; others = c.here.others; past = c.here.past; said = All-append (λ (m : Sent E). IsSo nodes c.now m.from m.to m.message) xs ys c.here.said so };
+      }
+
   -- a past that changes for this node alone
   pub moves : (p q : Past E) (s t : RaftState E) (xs : List (Sent E)) → Beside n p q → PastOk nodes q → NodeOk nodes q n t → Here nodes w n p s xs → Comes nodes w n p t xs
   moves p q s t xs b ok self h =
@@ -244,3 +253,7 @@ module _ {E : Type 0} (nodes : List ℕ) (w : World E) (n : ℕ) where
           said = All-weaker (λ (m : Sent E). IsSo nodes p m.from m.to m.message) (λ (m : Sent E). IsSo nodes q m.from m.to m.message) xs (λ m. IsSo-grows nodes p q b.grows m.from m.to m.message) h.said;
         };
       }
+
+  pub moves_now : (p q : Past E) (s t : RaftState E) (xs : List (Sent E)) → Beside n p q → PastOk nodes q → NodeOk nodes q n t → Here nodes w n p s xs → (c : Comes nodes w n p t xs) × (c.now ≡ q)
+  unfolding moves
+  moves_now p q s t xs b ok self h = (moves p q s t xs b ok self h, refl)
