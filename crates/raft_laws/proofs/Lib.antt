@@ -8,3 +8,4 @@ pub mod Moves
 pub mod Leading
 pub mod Following
 pub mod Counting
+pub mod Rows
