@@ -217,3 +217,174 @@ module _ {E : Type 0} (nodes : List ℕ) (w : World E) (n : ℕ) (p : Past E) (x
         | inl rest ↦ rest.comes
         | inr winning ↦ absurd (both_ways (wins s.votes v) no winning.wins_is)
       ])
+
+  -- ---- a tick
+
+  asks_so : (q : Past E) (s : RaftState E) (term : ℕ) (votes : List ℕ) → Stands q n term s.log votes → (ns : List NodeId) → AllByRecursion (λ (m : Sent E). IsSo nodes q m.from m.to m.message) (posted n (map (λ m. (m, VoteAsk term (last_term s.log) (length s.log))) ns))
+  asks_so q s term votes st [] = tt
+  asks_so q s term votes st (m ∷ ms) =
+      (record { ballot = record { for_node = node_id n; log = s.log; bound = st.bound }; is = st.own; self = refl; last_is = refl; index_is = refl }, asks_so q s term votes st ms)
+
+  election_outcome : (s : RaftState E) → is_leader s.votes.role ≡ false → ((q : Past E) → NodeOk nodes q n s → s.votes.nodes ≡ nodes) → Comes nodes w n p s xs
+      → (let r = election s.votes in Outcome s r.node (asks r.node.term (last_term s.log) (length s.log) r.asked))
+  election_outcome s follows all c =
+      let u : VoteState = record s.votes { term = s.votes.term + 1; vote = Some s.votes.me; leader = None } in
+      let cand : RaftState E = record s { votes = record u { role = Candidate (alone s.votes.me) false } } in
+      granted_outcome s u (alone s.votes.me) false (λ term. asks term (last_term s.log) (length s.log) (others s.votes)) follows (c.here.self.all)
+      (λ q term votes g st. asks_so q s term votes st (map node_id (others s.votes)))
+      (go_on nodes w n p s cand xs xs c (λ q g h. stands nodes w n q s xs h))
+
+  waiting_outcome : (s : RaftState E) (r : Role) → s.votes.role ≡ r → is_leader r ≡ false → Comes nodes w n p s xs
+      → (let a = waiting r s.votes in Outcome s a.node (asks a.node.term (last_term s.log) (length s.log) a.asked))
+  waiting_outcome s Follower is follows c = inl (record { wins_not = no_win s.votes s.votes (ap is_leader is); comes = quiet s c })
+  waiting_outcome s (Candidate granted true) is follows c =
+      let v : VoteState = record s.votes { role = Follower } in
+      let t : RaftState E = record s { votes = v } in
+      inl (record { wins_not = no_win s.votes v refl; comes = quiet t (goes_to nodes w n p s t xs (λ q g ok o. turns nodes q n s o Follower s.votes.leader tt (λ (e : false ≡ true). absurd (false≢true e))) c) })
+  waiting_outcome s (Candidate granted false) is follows c =
+      inl (record {
+        wins_not = no_win s.votes s.votes (ap is_leader is);
+        comes = sends nodes w n p s xs (posted n (asks s.votes.term (last_term s.log) (length s.log) (without s.votes.nodes granted)))
+            (λ q g o. asks_so q s s.votes.term granted (subst (λ (x : Role). RoleOk q n x s.votes.term s.log s.peers) is o.role) (map node_id (without s.votes.nodes granted))) c;
+      })
+  waiting_outcome s Leader is follows c = absurd (cc follows)
+
+  tick_goes : (noop : E) (s : RaftState E) (unseen : List ℕ) → Comes nodes w n p s xs → (let r = tick_row noop s unseen in Goes r.node r.sent)
+  tick_goes noop s unseen c =
+      cond_both (is_leader s.votes.role) (record { node = s; sent = append_all s }) (elect_row noop s unseen) (λ (r : RaftStepped E). Goes r.node r.sent)
+      (λ leading. says_all s xs leading c)
+      (λ follows.
+          let outcome : (let a = vote_tick s.votes unseen in Outcome s a.node (asks a.node.term (last_term s.log) (length s.log) a.asked)) =
+          cond_both (starts_election s.votes.role s.votes unseen) (election s.votes) (waiting s.votes.role s.votes) (λ (a : Asking). Outcome s a.node (asks a.node.term (last_term s.log) (length s.log) a.asked))
+          (λ _. election_outcome s follows (λ q o. o.all) c)
+          (λ _. waiting_outcome s s.votes.role refl follows c) in
+          let a = vote_tick s.votes unseen in
+          elected_goes noop s a.node (asks a.node.term (last_term s.log) (length s.log) a.asked) outcome)
+
+  -- ---- told of a vote
+
+  counted_outcome : (s : RaftState E) (from : NodeId) (term : ℕ) (granted : Bool) → IsSo nodes p from (node_id n) (VoteSay term granted) → Comes nodes w n p (record s { votes = take_term s.votes term }) xs
+      → (r : Role) → (take_term s.votes term).role ≡ r → Outcome s (counted r (take_term s.votes term) from term granted) []
+  counted_outcome s from term granted so c Follower is =
+      let t : RaftState E = record s { votes = take_term s.votes term } in
+      inl (record { wins_not = no_win s.votes t.votes (ap is_leader is); comes = quiet t c })
+  counted_outcome s from term true so c (Candidate votes refused) is =
+      let t : RaftState E = record s { votes = take_term s.votes term } in
+      let more = with_member votes from.0 in
+      let role = Candidate more refused in
+      let follows : is_leader s.votes.role ≡ false = ap is_leader (take_term-role s.votes term (Candidate votes refused) (λ e. cc e) is) in
+      cond_both (t.votes.term == term) (with_grants t.votes more refused) t.votes (λ (v : VoteState). Outcome s v [])
+      (λ same.
+          let term_is : t.votes.term ≡ term = eqb-true t.votes.term term same in
+          let cand : RaftState E = record s { votes = record t.votes { role = role } } in
+          granted_outcome s t.votes more refused (λ _. []) follows (c.here.self.all) (λ q k v g st. tt)
+          (goes_to nodes w n p t cand xs
+          (λ q g ok o.
+              let st : Stands q n t.votes.term s.log votes = subst (λ (x : Role). RoleOk q n x t.votes.term s.log s.peers) is o.role in
+              let new : Cast q from.0 t.votes.term (node_id n) = subst (λ (x : ℕ). Cast q from.0 x (node_id n)) (sym term_is) (Cast-grows p q from.0 term (node_id n) g so) in
+              let now : Stands q n t.votes.term s.log more =
+              record {
+                counted = λ k e.
+                    elim (or_cases (from.0 == k) (has votes k) (sym (has-with_member votes from.0 k) ∙ e)) [
+                      | inl one ↦ subst (λ (x : ℕ). Cast q x t.votes.term (node_id n)) (eqb-true from.0 k one) new
+                      | inr old ↦ st.counted k old
+                    ];
+                bound = st.bound;
+                own = st.own;
+                below = st.below;
+              } in
+              turns nodes q n t o role t.votes.leader now (λ _. ap is_candidate is)) c))
+      (λ _. inl (record { wins_not = no_win s.votes t.votes (ap is_leader is); comes = quiet t c }))
+  counted_outcome s from term false so c (Candidate votes refused) is =
+      let t : RaftState E = record s { votes = take_term s.votes term } in
+      let v : VoteState = record t.votes { role = Candidate votes true } in
+      cond_both (t.votes.term == term) v t.votes (λ (x : VoteState). Outcome s x [])
+      (λ _.
+          let cand : RaftState E = record s { votes = v } in
+          inl (record {
+            wins_not = no_win s.votes v refl;
+            comes = quiet cand (goes_to nodes w n p t cand xs
+            (λ q g ok o.
+                let st : Stands q n t.votes.term s.log votes = subst (λ (x : Role). RoleOk q n x t.votes.term s.log s.peers) is o.role in
+                turns nodes q n t o (Candidate votes true) t.votes.leader st (λ _. ap is_candidate is)) c);
+          }))
+      (λ _. inl (record { wins_not = no_win s.votes t.votes (ap is_leader is); comes = quiet t c }))
+  counted_outcome s from term granted so c Leader is =
+      let t : RaftState E = record s { votes = take_term s.votes term } in
+      let leads : s.votes.role ≡ Leader = take_term-role s.votes term Leader (λ e. cc e) is in
+      inl (record { wins_not = and_left (not (is_leader s.votes.role)) (is_leader t.votes.role) (ap (λ (r : Role). not (is_leader r)) leads); comes = quiet t c })
+
+  told_goes : (noop : E) (s : RaftState E) (from : NodeId) (term : ℕ) (granted : Bool) → IsSo nodes p from (node_id n) (VoteSay term granted) → Comes nodes w n p s xs → (let r = vote_row noop s from term granted in Goes r.node r.sent)
+  told_goes noop s from term granted so c =
+      elected_goes noop s (vote_said s.votes from term granted) []
+      (counted_outcome s from term granted so (takes_any s term c) (take_term s.votes term).role refl)
+
+  -- ---- appends
+
+  append_goes : (s : RaftState E) (from : NodeId) (term prev prev_term : ℕ) (entries : List (LogEntry E)) (commit : ℕ) → Shipped nodes p term prev prev_term entries commit → Comes nodes w n p s xs
+      → (let r = append_row s from term prev prev_term entries commit in Goes r.node r.sent)
+  append_goes s from term prev prev_term entries commit shipped c =
+      let t : RaftState E = record s { votes = take_term s.votes term } in
+      let f : RaftState E = record s { votes = following (take_term s.votes term) from } in
+      cond_both (nat_lt term s.votes.term) (record { node = s; sent = (from, AppendSay s.votes.term false 0) ∷ [] }) (answered f from (taken s.log s.view prev prev_term entries commit))
+      (λ (r : RaftStepped E). Goes r.node r.sent)
+      (λ _. sends nodes w n p s xs (posted n ((from, AppendSay s.votes.term false 0) ∷ [])) (λ q g o. (tt, tt)) c)
+      (λ e.
+          let same : f.votes.term ≡ term = take_term-term s.votes term (ltb-false term s.votes.term e) in
+          let comes : Comes nodes w n p f xs =
+          goes_to nodes w n p t f xs (λ q g ok o. turns nodes q n t o Follower (Some from) tt (λ (e : false ≡ true). absurd (false≢true e))) (takes_any s term c) in
+          cond_both (fits s.log prev prev_term)
+          (record { log = take prev s.log ++ merged (drop prev s.log) entries; view = max s.view (min commit (prev + length entries)); ok = true; upto = prev + length entries })
+          (record { log = s.log; view = s.view; ok = false; upto = min (prev - 1) (length s.log) })
+          (λ (x : Taken E). let r = answered f from x in Goes r.node r.sent)
+          (λ fit.
+              go_on nodes w n p f (record f { log = take prev s.log ++ merged (drop prev s.log) entries; view = max s.view (min commit (prev + length entries)) }) xs
+              (xs ++ posted n ((from, AppendSay f.votes.term true (prev + length entries)) ∷ [])) comes
+              (λ q g h. takes nodes w n q f xs h refl from prev prev_term entries commit
+              (subst (λ (k : ℕ). Shipped nodes q k prev prev_term entries commit) (sym same) (IsSo-grows nodes p q g from (node_id n) (Append term prev prev_term entries commit) shipped)) fit))
+          (λ _. sends nodes w n p f xs (posted n ((from, AppendSay f.votes.term false (min (prev - 1) (length s.log))) ∷ [])) (λ q g o. (tt, tt)) comes))
+
+  say_so : (q : Past E) (from : NodeId) (term : ℕ) (ok : Bool) (upto : ℕ) → IsSo nodes q from (node_id n) (AppendSay term ok upto) → ok ≡ true → upto ≤ q.acks from.0 term
+  say_so q from term true upto so e = so
+  say_so q from term false upto so e = absurd (false≢true e)
+
+  say_goes : (s : RaftState E) (from : NodeId) (term : ℕ) (ok : Bool) (upto : ℕ) → IsSo nodes p from (node_id n) (AppendSay term ok upto) → Comes nodes w n p s xs → Goes (say_row s from term ok upto) []
+  say_goes s from term ok upto so c =
+      let t : RaftState E = record s { votes = take_term s.votes term } in
+      let comes = takes_any s term c in
+      let told : RaftState E = record t { peers = slice_set s.peers from.0 (progressed (progress_at s.peers from.0) (length s.log) ok upto) } in
+      cond_both (is_leader t.votes.role && (t.votes.term == term)) told t (λ (x : RaftState E). Goes x [])
+      (λ e.
+          let both = and_parts (is_leader t.votes.role) (t.votes.term == term) e in
+          let same : t.votes.term ≡ term = eqb-true t.votes.term term both.1 in
+          quiet told (goes_to nodes w n p t told xs
+          (λ q g good o. hears nodes q n t o both.0 from ok upto
+          (λ is. subst (λ (k : ℕ). upto ≤ q.acks from.0 k) (sym same) (say_so q from term ok upto (IsSo-grows nodes p q g from (node_id n) (AppendSay term ok upto) so) is))) comes))
+      (λ _. quiet t comes)
+
+  -- ---- a step
+
+  deliver_goes : (noop : E) (s : RaftState E) (from : NodeId) (m : RaftMessage E) → IsSo nodes p from (node_id n) m → Comes nodes w n p s xs → (let r = deliver_row noop s from m in Goes r.node r.sent)
+  deliver_goes noop s from (VoteAsk term last index) so c = asked_goes s from term last index so c
+  deliver_goes noop s from (VoteSay term granted) so c = told_goes noop s from term granted so c
+  deliver_goes noop s from (Append term prev prev_term entries commit) so c = append_goes s from term prev prev_term entries commit so c
+  deliver_goes noop s from (AppendSay term ok upto) so c = say_goes s from term ok upto so c
+
+  -- what a step is given is so
+  abbrev pub IsGiven : RaftInput E → Type 0
+  IsGiven (Tick unseen) = Unit {0}
+  IsGiven (Deliver from m) = IsSo nodes p from (node_id n) m
+
+  row_goes : (noop : E) (s : RaftState E) (i : RaftInput E) → IsGiven i → Comes nodes w n p s xs → (let r = input_row noop s i in Goes r.node r.sent)
+  row_goes noop s (Tick unseen) given c = tick_goes noop s unseen c
+  row_goes noop s (Deliver from m) given c = deliver_goes noop s from m given c
+
+  goes_advanced : (t : RaftState E) (ys : List (Sent E)) → Comes nodes w n p t ys → Comes nodes w n p (advanced t) ys
+  goes_advanced t ys c = goes_to nodes w n p t (advanced t) ys (λ q g ok o. advances nodes q n t o) c
+
+  pub step_goes : (noop : E) (s : RaftState E) (i : RaftInput E) → IsGiven i → Comes nodes w n p s xs → (let r = raft_step noop s i in Goes r.node r.sent)
+  step_goes noop s i given c = let r = input_row noop s i in goes_advanced r.node (xs ++ posted n r.sent) (row_goes noop s i given c)
+
+  pub propose_goes : (s : RaftState E) (change : E) → is_leader s.votes.role ≡ true → Comes nodes w n p s xs → Comes nodes w n p (proposed s change) xs
+  propose_goes s change leading c =
+      goes_advanced (with_entry s change) xs (go_on nodes w n p s (with_entry s change) xs xs c (λ q g h. appends nodes w n q s xs h leading change))
