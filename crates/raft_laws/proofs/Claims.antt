@@ -1,16 +1,12 @@
 -- What stays so of a node and of a ballot, and what is decided.
-use Rattle.std.proofs.Common.{◌≡◌, ℕ, zero, suc, ◌<◌, ◌≤◌, ◌+◌, true, false, ◌⊎◌, inl, inr, List, [], ◌∷◌, ◌++◌, length, take, drop, min, Option, Some, None, refl, sym, ap, subst, ◌∙◌, arith, append_assoc, append-nil, length-append, length-take}
-use Rattle.std.proofs.lemmas.Bool.{cases_lt}
-use Rattle.std.proofs.lemmas.List.{take_all}
+use Rattle.std.proofs.Common.{◌≡◌, ℕ, ◌<◌, ◌≤◌, true, ◌⊎◌, inl, inr, List, ◌++◌, length, take, Some, sym, subst, ◌∙◌, arith, length-append}
 use Rattle.region_map.specs.declared.id.NodeId.{NodeId}
 use Rattle.region_map.specs.Nodes.{has, node_id, is_majority}
 use Rattle.raft_vote.specs.declared.log.LogEntry.{LogEntry}
-use Rattle.raft_vote.specs.declared.message.RaftMessage.{RaftMessage}
-use Rattle.raft_vote.specs.declared.message.RaftMessage.TheVariants.{VoteAsk, VoteSay, Append, AppendSay}
 use Rattle.raft_vote.specs.Log.{term_at, last_term}
 use Rattle.raft_vote.specs.Rows.{reaches}
-use Rattle.raft_laws.proofs.Logs.{term_at-append, same_terms, shorter, as_long, front_of, Rises, IsUpTo}
-use Rattle.raft_laws.proofs.Past.{Past, Ballot, Reign, Cast, Cast-grows, Grows, Longer, Grounded, Grounded-grows}
+use Rattle.raft_laws.proofs.Logs.{term_at-append, as_long, front_of, Rises, IsUpTo}
+use Rattle.raft_laws.proofs.Past.{Past, Ballot, Reign, Cast, Grows, Grounded, Grounded-grows}
 
 -- each log that won a term from low to high, without these two, has this front
 pub record Between {E : Type 0} (p : Past E) (low high u : ℕ) (log : List (LogEntry E)) : Type 0 where

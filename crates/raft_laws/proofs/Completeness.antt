@@ -1,16 +1,15 @@
 -- What is decided is in the log of each later leader.
-use Rattle.std.proofs.Common.{◌≡◌, ◌==◌, ◌&&◌, ◌||◌, nat_lt, nat_le, ℕ, zero, suc, ◌<◌, ◌≤◌, ◌+◌, true, false, ◌⊎◌, inl, inr, List, [], ◌∷◌, ◌++◌, length, take, drop, Option, Some, None, refl, sym, ap, subst, ◌∙◌, arith, length-append, length-take}
+use Rattle.std.proofs.Common.{◌≡◌, ◌==◌, ◌&&◌, nat_lt, nat_le, ℕ, zero, suc, ◌<◌, ◌≤◌, true, ◌⊎◌, inl, inr, List, length, take, Some, sym, ap, subst, ◌∙◌, arith}
 use Rattle.std.proofs.lemmas.Bool.{cases_lt, or_cases, and_parts, ltb-true, leb-true, eqb-true}
-use Rattle.std.proofs.lemmas.List.{take_all}
 use Rattle.region_map.specs.declared.id.NodeId.{NodeId}
-use Rattle.region_map.specs.Nodes.{has, node_id, is_majority}
+use Rattle.region_map.specs.Nodes.{node_id}
 use Rattle.region_map.proofs.Majorities.{majorities_meet}
 use Rattle.raft_vote.specs.declared.log.LogEntry.{LogEntry}
 use Rattle.raft_vote.specs.Log.{term_at, last_term}
 use Rattle.raft_vote.specs.Rows.{reaches}
-use Rattle.raft_laws.proofs.Logs.{term_at-append, same_terms, shorter, as_long, front_of, Rises, IsUpTo}
-use Rattle.raft_laws.proofs.Past.{Past, Ballot, Reign, Cast, Grounded, one_reign}
-use Rattle.raft_laws.proofs.Claims.{Between, Holds, Decided, Certified, Rival, BallotOk, ReignOk, PastOk}
+use Rattle.raft_laws.proofs.Logs.{same_terms, shorter, as_long, front_of}
+use Rattle.raft_laws.proofs.Past.{Past, Ballot, Reign, Grounded, one_reign}
+use Rattle.raft_laws.proofs.Claims.{Between, Holds, Decided, Certified, PastOk}
 
 -- the ends of logs, one not below the other
 pub record Ends (term index own_term own_index : ℕ) : Type 0 where

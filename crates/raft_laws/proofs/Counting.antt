@@ -1,14 +1,10 @@
 -- What a leader learns of the others, and what it then acts on.
-use Rattle.std.proofs.Common.{◌≡◌, ◌==◌, ◌&&◌, ◌||◌, ℕ, zero, suc, ◌<◌, ◌≤◌, ◌+◌, ◌*◌, max, nat_lt, nat_le, cond, Bool, true, false, ◌⊎◌, inl, inr, List, [], ◌∷◌, length, map, filter, count_by, Option, Some, None, refl, sym, ap, subst, ◌∙◌, arith, replicate, slice_get, slice_set, unwrap_or}
-use Rattle.std.proofs.lemmas.Bool.{cases_lt, cases_eq, cases_Bool, cond_both, eq-eqb, eqb-true, and_parts, or_cases, leb-true, ltb-true, lt-ltb, or_left, or_right}
+use Rattle.std.proofs.Common.{◌≡◌, ◌==◌, ℕ, zero, suc, ◌<◌, ◌≤◌, ◌+◌, ◌*◌, max, nat_lt, nat_le, cond, Bool, true, false, inl, inr, List, [], ◌∷◌, length, map, filter, count_by, refl, sym, ap, subst, ◌∙◌, arith, slice_set}
+use Rattle.std.proofs.lemmas.Bool.{cases_lt, cond_both, eq-eqb, eqb-true, and_parts, or_cases, leb-true, ltb-true, lt-ltb, or_left, or_right}
 use Rattle.std.proofs.lemmas.List.Sums.{length-filter}
 use Rattle.region_map.specs.declared.id.NodeId.{NodeId}
 use Rattle.region_map.specs.Nodes.{has, node_id, is_majority}
-use Rattle.raft_vote.specs.declared.log.LogEntry.{LogEntry}
-use Rattle.raft_vote.specs.declared.votes.Role.{Role}
-use Rattle.raft_vote.specs.declared.votes.Role.TheVariants.{Follower}
 use Rattle.raft_vote.specs.Log.{term_at}
-use Rattle.raft_vote.specs.State.{VoteState}
 use Rattle.raft_vote.specs.Rows.{is_leader, all_nodes}
 use Rattle.raft_append.specs.declared.peers.Progress.{Progress}
 use Rattle.raft_append.specs.Peers.{progress_at, progressed}
@@ -16,9 +12,9 @@ use Rattle.raft_append.specs.Commit.{matched_by, is_matched, greatest, is_decide
 use Rattle.raft_node.specs.State.{RaftState}
 use Rattle.raft_node.specs.Rows.{advanced}
 use Rattle.raft_laws.specs.World.{kept}
-use Rattle.raft_laws.proofs.Past.{Past, Reign}
-use Rattle.raft_laws.proofs.Claims.{Certified, PastOk}
-use Rattle.raft_laws.proofs.Nodes.{NodeOk, RoleOk, Leads}
+use Rattle.raft_laws.proofs.Past.{Past}
+use Rattle.raft_laws.proofs.Claims.{Certified}
+use Rattle.raft_laws.proofs.Nodes.{NodeOk}
 use Rattle.raft_laws.proofs.Moves.{sees, learns}
 use Rattle.raft_laws.proofs.Leading.{leads_of, of_leads}
 
@@ -115,8 +111,8 @@ module _ {E : Type 0} (nodes : List ℕ) (p : Past E) (n : ℕ) (s : RaftState E
               let known : matched_by s.votes (length s.log) s.peers (node_id k) ≤ p.acks k s.votes.term =
               cond_both (k == s.votes.me.0) (length s.log) (progress_at s.peers k).matched (λ (v : ℕ). v ≤ p.acks k s.votes.term)
               (λ e.
-                  let same : n ≡ k = ap (λ (m : NodeId). m.0) (sym o.me) ∙ sym (eqb-true k s.votes.me.0 e) in
-                  subst (λ (v : ℕ). length s.log ≤ p.acks v s.votes.term) same l.mine)
+              let same : n ≡ k = ap (λ (m : NodeId). m.0) (sym o.me) ∙ sym (eqb-true k s.votes.me.0 e) in
+              subst (λ (v : ℕ). length s.log ≤ p.acks v s.votes.term) same l.mine)
               (λ _. l.matched k) in
               omega (arith, pass, known);
         };
@@ -128,15 +124,15 @@ module _ {E : Type 0} (nodes : List ℕ) (p : Past E) (n : ℕ) (s : RaftState E
       let d = decided s.votes s.log s.peers in
       cond_both (is_leader s.votes.role) (record s { view = max s.view d }) s (NodeOk nodes p n)
       (λ leading.
-          sees nodes p n s o (max s.view d)
-          (λ h. elim (cases_lt s.view d) [
-            | inl more ↦
-                let e : max s.view d ≡ d = omega (arith, more) in
-                subst (Certified nodes p s.votes.term s.log) (sym e) (decided_seen leading (omega (arith, more)))
-            | inr less ↦
-                let e : max s.view d ≡ s.view = omega (arith, less) in
-                subst (Certified nodes p s.votes.term s.log) (sym e) (o.seen (omega (arith, e, h)))
-          ]))
+      sees nodes p n s o (max s.view d)
+      (λ h. elim (cases_lt s.view d) [
+        | inl more ↦
+            let e : max s.view d ≡ d = omega (arith, more) in
+            subst (Certified nodes p s.votes.term s.log) (sym e) (decided_seen leading (omega (arith, more)))
+        | inr less ↦
+            let e : max s.view d ≡ s.view = omega (arith, less) in
+            subst (Certified nodes p s.votes.term s.log) (sym e) (o.seen (omega (arith, e, h)))
+      ]))
       (λ _. o)
 
 -- ---- what a leader is told

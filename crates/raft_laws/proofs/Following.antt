@@ -1,6 +1,6 @@
 -- What a node keeps as its log takes a leader's entries.
-use Rattle.std.proofs.Common.{◌≡◌, ◌≢◌, ◌==◌, ◌&&◌, ℕ, zero, suc, ◌<◌, ◌≤◌, ◌+◌, ◌-◌, min, max, nat_lt, nat_le, cond, Bool, true, false, ◌⊎◌, inl, inr, List, [], ◌∷◌, ◌++◌, length, take, drop, Option, Some, None, refl, sym, ap, subst, ◌∙◌, arith, length-append, length-take, length-drop}
-use Rattle.std.proofs.lemmas.Bool.{cases_lt, cases_eq, cond_both, le-leb}
+use Rattle.std.proofs.Common.{◌≡◌, ℕ, suc, ◌<◌, ◌≤◌, ◌+◌, ◌-◌, min, max, true, inl, inr, List, [], ◌∷◌, ◌++◌, length, take, drop, Some, refl, sym, ap, subst, ◌∙◌, arith, length-take, length-drop}
+use Rattle.std.proofs.lemmas.Bool.{cases_lt, cases_eq, le-leb}
 use Rattle.std.proofs.lemmas.List.{take_all}
 use Rattle.region_map.specs.declared.id.NodeId.{NodeId}
 use Rattle.region_map.specs.Nodes.{node_id}
@@ -12,11 +12,11 @@ use Rattle.raft_vote.specs.Log.{term_at}
 use Rattle.raft_append.specs.Merge.{fits, agreeing, merged, agrees_to_view}
 use Rattle.raft_node.specs.State.{RaftState}
 use Rattle.raft_laws.specs.World.{Sent, World}
-use Rattle.raft_laws.proofs.Logs.{same_terms, shorter, as_long, front_of, IsUpTo, Match, Merged, merged_is, fits_front, fits_within, agree_behind}
-use Rattle.raft_laws.proofs.Past.{Past, Ballot, Reign, Grows, Grounded, Grounded-grows, Grounded-front, matching, one_reign}
-use Rattle.raft_laws.proofs.Claims.{Between, Holds, Holds-grows, Certified, Certified-grows, Certified-other, Certified-within, ReignOk, PastOk}
+use Rattle.raft_laws.proofs.Logs.{same_terms, shorter, as_long, front_of, IsUpTo, Merged, merged_is, fits_front, fits_within, agree_behind}
+use Rattle.raft_laws.proofs.Past.{Past, Reign, Grounded, Grounded-grows, Grounded-front, matching, one_reign}
+use Rattle.raft_laws.proofs.Claims.{Between, Holds, Holds-grows, Certified, Certified-grows, Certified-other, Certified-within, PastOk}
 use Rattle.raft_laws.proofs.Completeness.{has_certified}
-use Rattle.raft_laws.proofs.Nodes.{NodeOk, RoleOk, AckOk, Shipped, Beside, is_candidate, Here, Comes, moves_now, sends_now}
+use Rattle.raft_laws.proofs.Nodes.{NodeOk, RoleOk, Shipped, Here, Comes, moves_now, sends_now}
 use Rattle.raft_laws.proofs.Ghosts.{with_ack, with_ack-at, with_ack-term, with_ack-beside, with_ack-past}
 
 -- a front of a log has no greater term
@@ -84,19 +84,19 @@ module _ {E : Type 0} (nodes : List ℕ) (w : World E) (n : ℕ) (p : Past E) (s
       ] in
       -- what the node held of an early leader's log it holds
       let old_holds : (u : ℕ) → 0 < p.acks n u → Holds p u (p.acks n u) (suc t) log = λ u a.
-          let old = o.acked u a in
-          let k = old.holds in
-          record {
-            reign = k.reign;
-            is = k.is;
-            within = k.within;
-            keeps = λ v h b.
-                let w = k.within in
-                let far : v ≤ length k.reign.log = omega (arith, h, w) in
-                let had = k.keeps v h b in
-                let leader = reign_has nodes p here.past n s o r is u v old.low k.reign k.is far b in
-                m.keeps v r.log front (as_long v k.reign.log s.log (sym had) far) (had ∙ sym leader) ∙ leader;
-          } in
+      let old = o.acked u a in
+      let k = old.holds in
+      record {
+        reign = k.reign;
+        is = k.is;
+        within = k.within;
+        keeps = λ v h b.
+            let w = k.within in
+            let far : v ≤ length k.reign.log = omega (arith, h, w) in
+            let had = k.keeps v h b in
+            let leader = reign_has nodes p here.past n s o r is u v old.low k.reign k.is far b in
+            m.keeps v r.log front (as_long v k.reign.log s.log (sym had) far) (had ∙ sym leader) ∙ leader;
+      } in
       let c = moves_now nodes w n p q s (record s { log = log; view = view }) xs beside ok
       (record {
         me = o.me;
@@ -147,7 +147,7 @@ module _ {E : Type 0} (nodes : List ℕ) (w : World E) (n : ℕ) (p : Past E) (s
         seen = λ h. Certified-grows p q g nodes t log view (seen h);
       })
       here in
-      (c.0, subst (λ (v : Past E). length y ≤ v.acks n t) (sym c.1) (omega (arith, acked_now)))
+      (c.0, let same : c.0.now.acks n t ≡ q.acks n t = ap (λ (v : Past E). v.acks n t) {x = c.0.now} {y = q} c.1 in omega (arith, acked_now, same))
 
   -- what it then acts on is decided
   takes_view : (y : List (LogEntry E)) (r : Reign E) (is : p.reigns s.votes.term ≡ Some r) (front : take (length y) r.log ≡ y) (log : List (LogEntry E)) (m : Merged s.log y log) (commit : ℕ) (seen : 0 < commit → Certified nodes p s.votes.term r.log commit)

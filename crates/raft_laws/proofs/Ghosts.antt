@@ -1,8 +1,8 @@
 -- One more vote, a longer log of a leader, one more acknowledgement.
-use Rattle.std.proofs.Common.{◌≡◌, ◌≢◌, ◌==◌, ◌&&◌, ℕ, zero, suc, ◌<◌, ◌≤◌, ◌+◌, max, cond, Bool, true, false, ◌⊎◌, inl, inr, List, [], ◌∷◌, ◌++◌, length, Option, Some, None, refl, sym, ap, subst, ◌∙◌, arith}
-use Rattle.std.proofs.lemmas.Bool.{cases_lt, cases_eq, cond_both, both_ways, eq-eqb, ne_eqb, eqb-true, and_parts}
+use Rattle.std.proofs.Common.{◌≡◌, ◌≢◌, ◌==◌, ◌&&◌, ℕ, ◌<◌, ◌≤◌, max, cond, true, false, ◌⊎◌, inl, inr, List, ◌++◌, Option, Some, None, refl, sym, ap, subst, ◌∙◌, arith}
+use Rattle.std.proofs.lemmas.Bool.{cases_eq, cond_both, eq-eqb, ne_eqb, eqb-true, and_parts}
 use Rattle.raft_vote.specs.declared.log.LogEntry.{LogEntry}
-use Rattle.raft_laws.proofs.Past.{Past, Ballot, Reign, Grows, Longer, Longer-same}
+use Rattle.raft_laws.proofs.Past.{Past, Ballot, Reign, Longer-same}
 use Rattle.raft_laws.proofs.Claims.{BallotOk, BallotOk-grows, ReignOk, ReignOk-grows, PastOk}
 use Rattle.raft_laws.proofs.Nodes.{Beside}
 
@@ -27,11 +27,11 @@ module _ {E : Type 0} (p : Past E) (n t : ℕ) (b : Ballot E) where
           ballots = λ k u x e.
               cond_both ((k == n) && (u == t)) (Some b) (p.ballots k u) (λ (v : Option (Ballot E)). v ≡ Some x)
               (λ both.
-                  let parts = and_parts (k == n) (u == t) both in
-                  let who : k ≡ n = eqb-true k n parts.0 in
-                  let when : u ≡ t = eqb-true u t parts.1 in
-                  let clash : None ≡ Some x = sym none ∙ ap (λ v. p.ballots v t) (sym who) ∙ ap (p.ballots k) (sym when) ∙ e in
-                  cc)
+              let parts = and_parts (k == n) (u == t) both in
+              let who : k ≡ n = eqb-true k n parts.0 in
+              let when : u ≡ t = eqb-true u t parts.1 in
+              let clash : None ≡ Some x = sym none ∙ ap (λ v. p.ballots v t) (sym who) ∙ ap (p.ballots k) (sym when) ∙ e in
+              cc)
               (λ _. e);
           reigns = λ u r e. Longer-same with_ballot u r e;
           acks = λ k u. omega arith;
@@ -49,11 +49,11 @@ module _ {E : Type 0} (p : Past E) (n t : ℕ) (b : Ballot E) where
         ballots = λ k u x e.
             cond_both ((k == n) && (u == t)) (Some b) (p.ballots k u) (λ (v : Option (Ballot E)). v ≡ Some x → BallotOk with_ballot k u x)
             (λ both is.
-                let parts = and_parts (k == n) (u == t) both in
-                let who : k ≡ n = eqb-true k n parts.0 in
-                let when : u ≡ t = eqb-true u t parts.1 in
-                let same : b ≡ x = cc in
-                subst (λ (v : ℕ). BallotOk with_ballot v u x) (sym who) (subst (λ (v : ℕ). BallotOk with_ballot n v x) (sym when) (subst (BallotOk with_ballot n t) same new)))
+            let parts = and_parts (k == n) (u == t) both in
+            let who : k ≡ n = eqb-true k n parts.0 in
+            let when : u ≡ t = eqb-true u t parts.1 in
+            let same : b ≡ x = cc in
+            subst (λ (v : ℕ). BallotOk with_ballot v u x) (sym who) (subst (λ (v : ℕ). BallotOk with_ballot n v x) (sym when) (subst (BallotOk with_ballot n t) same new)))
             (λ _ is. BallotOk-grows p with_ballot grows k u x (λ early l. refl) (ok.ballots k u x is)) e;
       }
 
@@ -101,8 +101,8 @@ module _ {E : Type 0} (p : Past E) (n t : ℕ) (r : Reign E) (own : r.leader ≡
         reigns = λ u x e.
             cond_both (u == t) (Some r) (p.reigns u) (λ (v : Option (Reign E)). v ≡ Some x → ReignOk nodes with_reign u x)
             (λ when is.
-                let same : r ≡ x = cc in
-                subst (λ (v : ℕ). ReignOk nodes with_reign v x) (sym (eqb-true u t when)) (subst (ReignOk nodes with_reign t) same new))
+            let same : r ≡ x = cc in
+            subst (λ (v : ℕ). ReignOk nodes with_reign v x) (sym (eqb-true u t when)) (subst (ReignOk nodes with_reign t) same new))
             (λ _ is. ReignOk-grows p with_reign grows nodes u x (ok.reigns u x is)) e;
         ballots = λ k u x e. BallotOk-grows p with_reign grows k u x (λ early l. refl) (ok.ballots k u x e);
       }
@@ -142,13 +142,13 @@ module _ {E : Type 0} (p : Past E) (n t u : ℕ) where
         ballots = λ k x b e.
             BallotOk-grows p with_ack grows k x b
             (λ early l.
-                cond_both ((k == n) && (early == t)) (max (p.acks k early) u) (p.acks k early) (λ v. v ≡ p.acks k early)
-                (λ both.
-                    let parts = and_parts (k == n) (early == t) both in
-                    let who : k ≡ n = eqb-true k n parts.0 in
-                    let when : early ≡ t = eqb-true early t parts.1 in
-                    let clash : None ≡ Some b = sym (later x (omega (arith, when, l))) ∙ ap (λ v. p.ballots v x) (sym who) ∙ e in
-                    cc)
-                (λ _. refl))
+            cond_both ((k == n) && (early == t)) (max (p.acks k early) u) (p.acks k early) (λ v. v ≡ p.acks k early)
+            (λ both.
+            let parts = and_parts (k == n) (early == t) both in
+            let who : k ≡ n = eqb-true k n parts.0 in
+            let when : early ≡ t = eqb-true early t parts.1 in
+            let clash : None ≡ Some b = sym (later x (omega (arith, when, l))) ∙ ap (λ v. p.ballots v x) (sym who) ∙ e in
+            cc)
+            (λ _. refl))
             (ok.ballots k x b e);
       }

@@ -1,25 +1,23 @@
 -- What a node keeps as it comes to lead, and as it leads.
-use Rattle.std.proofs.Common.{◌≡◌, ◌≢◌, ◌==◌, ◌&&◌, ℕ, zero, suc, ◌<◌, ◌≤◌, ◌+◌, ◌-◌, min, max, nat_lt, nat_le, cond, Bool, true, false, ◌⊎◌, inl, inr, List, [], ◌∷◌, ◌++◌, length, take, drop, Option, Some, None, refl, sym, ap, subst, ◌∙◌, arith, append_assoc, append-nil, length-append, length-take, length-drop, replicate, slice_get, unwrap_or, get_or}
-use Rattle.std.proofs.lemmas.Bool.{cases_lt, cases_eq, cond_both, both_ways, eq-eqb, ne_eqb, eqb-true, and_parts}
-use Rattle.std.proofs.lemmas.List.{take_all}
+use Rattle.std.proofs.Common.{◌≡◌, ℕ, zero, suc, ◌≤◌, ◌+◌, max, true, false, inl, inr, List, [], ◌∷◌, ◌++◌, length, Option, Some, None, refl, sym, ap, subst, ◌∙◌, arith, append_assoc, append-nil, length-append, replicate}
+use Rattle.std.proofs.lemmas.Bool.{cases_lt, cases_eq, both_ways}
 use Rattle.region_map.specs.declared.id.NodeId.{NodeId}
-use Rattle.region_map.specs.Nodes.{has, node_id, is_majority}
+use Rattle.region_map.specs.Nodes.{node_id, is_majority}
 use Rattle.region_map.proofs.Majorities.{majorities_meet}
 use Rattle.raft_vote.specs.declared.log.LogEntry.{LogEntry}
 use Rattle.raft_vote.specs.declared.votes.Role.{Role}
 use Rattle.raft_vote.specs.declared.votes.Role.TheVariants.{Follower, Candidate, Leader}
-use Rattle.raft_vote.specs.Log.{term_at, last_term}
-use Rattle.raft_vote.specs.State.{VoteState}
+use Rattle.raft_vote.specs.Log.{term_at}
 use Rattle.raft_vote.specs.Rows.{is_leader}
 use Rattle.raft_append.specs.declared.peers.Progress.{Progress}
 use Rattle.raft_append.specs.Peers.{progress_at, reset_to, fresh}
 use Rattle.raft_node.specs.State.{RaftState}
 use Rattle.raft_node.specs.Rows.{with_entry}
 use Rattle.raft_laws.specs.World.{Sent, World}
-use Rattle.raft_laws.proofs.Logs.{same_terms, shorter, as_long, front_of, Rises, Rises-push, IsUpTo, IsUpTo-more, IsUpTo-push}
-use Rattle.raft_laws.proofs.Past.{Past, Ballot, Reign, Cast, Cast-grows, Grows, Grounded, Grounded-grows, Grounded-push, one_reign, for_whom}
-use Rattle.raft_laws.proofs.Claims.{Between, Holds, Holds-grows, Decided, Certified, Certified-grows, Certified-other, Certified-within, CastEarly, BallotOk, ReignOk, ReignOk-grows, PastOk}
-use Rattle.raft_laws.proofs.Nodes.{NodeOk, RoleOk, Stands, Leads, AckOk, IsPast, Beside, Beside-more, is_candidate, Here, Comes, moves}
+use Rattle.raft_laws.proofs.Logs.{same_terms, as_long, front_of, Rises, Rises-push, IsUpTo-push}
+use Rattle.raft_laws.proofs.Past.{Past, Ballot, Reign, Grounded, Grounded-grows, Grounded-push, one_reign}
+use Rattle.raft_laws.proofs.Claims.{Holds, Holds-grows, Certified-grows, Certified-other, Certified-within, ReignOk, ReignOk-grows, PastOk}
+use Rattle.raft_laws.proofs.Nodes.{RoleOk, Stands, Leads, Beside-more, is_candidate, Here, Comes, moves}
 use Rattle.raft_laws.proofs.Ghosts.{with_reign, with_reign-at, with_reign-term, with_reign-beside, with_reign-past, IsLonger, with_ack, with_ack-at, with_ack-term, with_ack-beside, with_ack-past}
 use Rattle.raft_laws.proofs.Moves.{Holds-more}
 
@@ -63,18 +61,18 @@ module _ {E : Type 0} (nodes : List ℕ) (w : World E) (n : ℕ) (p : Past E) (s
   first votes st cand most =
       none_if (p.reigns s.votes.term)
       (λ r e.
-          let reign = here.past.reigns s.votes.term r e in
-          let both = majorities_meet votes reign.votes nodes most reign.majority in
-          let a = st.counted both.0 both.2 in
-          let b = (reign.voted both.0 both.3).cast in
-          let two : Some a.ballot ≡ Some b.ballot = sym a.is ∙ b.is in
-          let one : a.ballot ≡ b.ballot = cc in
-          let ids : node_id r.leader ≡ node_id n = sym b.self ∙ ap (λ (x : Ballot E). x.for_node) (sym one) ∙ a.self in
-          let same : r.leader ≡ n = ap (λ (m : NodeId). m.0) ids in
-          elim (here.self.led s.votes.term r e same) [
-            | inl below ↦ omega (arith, below)
-            | inr at ↦ both_ways (is_candidate s.votes.role) at.1 cand
-          ])
+      let reign = here.past.reigns s.votes.term r e in
+      let both = majorities_meet votes reign.votes nodes most reign.majority in
+      let a = st.counted both.0 both.2 in
+      let b = (reign.voted both.0 both.3).cast in
+      let two : Some a.ballot ≡ Some b.ballot = sym a.is ∙ b.is in
+      let one : a.ballot ≡ b.ballot = cc in
+      let ids : node_id r.leader ≡ node_id n = sym b.self ∙ ap (λ (x : Ballot E). x.for_node) (sym one) ∙ a.self in
+      let same : r.leader ≡ n = ap (λ (m : NodeId). m.0) ids in
+      elim (here.self.led s.votes.term r e same) [
+        | inl below ↦ omega (arith, below)
+        | inr at ↦ both_ways (is_candidate s.votes.role) at.1 cand
+      ])
 
   pub wins_term : (votes : List ℕ) → Stands p n s.votes.term s.log votes → is_candidate s.votes.role ≡ true → is_majority votes nodes ≡ true → (leader : Option NodeId) (next : ℕ)
       → Comes nodes w n p (record s { votes = record s.votes { role = Leader; leader = leader }; peers = reset_to next s.peers }) xs

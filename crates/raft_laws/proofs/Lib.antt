@@ -9,3 +9,7 @@ pub mod Leading
 pub mod Following
 pub mod Counting
 pub mod Rows
+pub mod Runs
+pub mod Fitting
+pub mod Moments
+pub mod Lasting

@@ -1,7 +1,7 @@
 -- Logs whose every entry came from the leader of its term.
-use Rattle.std.proofs.Common.{◌≡◌, ◌==◌, ℕ, zero, suc, ◌+◌, ◌-◌, ◌<◌, ◌≤◌, true, false, cond, ◌&&◌, ◌⊎◌, inl, inr, List, [], ◌∷◌, ◌++◌, length, take, drop, slice_get, min, Option, Some, None, refl, sym, ap, subst, ◌∙◌, arith, append_assoc, append-nil, take-append-drop, length-append, length-take, length-drop, take-add, drop-drop, ap₂, nat_le}
+use Rattle.std.proofs.Common.{◌≡◌, ◌==◌, ℕ, zero, suc, ◌+◌, ◌-◌, ◌<◌, ◌≤◌, true, false, cond, ◌&&◌, ◌⊎◌, inl, inr, List, [], ◌∷◌, ◌++◌, length, take, drop, slice_get, Some, refl, sym, ap, subst, ◌∙◌, arith, append_assoc, take-append-drop, length-append, length-take, length-drop, take-add, drop-drop, ap₂, nat_le}
 use Rattle.std.proofs.lemmas.List.{take-append-le, take-take, take_all}
-use Rattle.std.proofs.lemmas.Bool.{cond_both, eqb-true, eq-eqb, leb-true, and_parts, or_cases, cases_lt, cases_eq, eqb-false}
+use Rattle.std.proofs.lemmas.Bool.{cond_both, eqb-true, eq-eqb, leb-true, and_parts, or_cases, cases_lt, eqb-false}
 use Rattle.std.proofs.lemmas.List.Sums.{common_prefix_len-le}
 use Rattle.raft_vote.specs.declared.log.LogEntry.{LogEntry}
 use Rattle.raft_vote.specs.Log.{term_of, term_at}
@@ -225,15 +225,15 @@ module _ {E : Type 0} (own y : List (LogEntry E)) (prev : ℕ) (m : Match own y)
       let same = agreeing (drop prev own) (drop prev y) in
       cond_both (same == length (drop prev y)) (drop prev own) (take same (drop prev own) ++ drop same (drop prev y)) (λ (r : List (LogEntry E)). Merged own y (take prev own ++ r))
       (λ e.
-          let all = stays front (eqb-true same (length (drop prev y)) e) in
-          let now : take prev own ++ drop prev own ≡ own = take-append-drop prev own in
-          subst (Merged own y) (sym now) (record { is = inl refl; has = all; keeps = λ a whole f l e. e }))
+      let all = stays front (eqb-true same (length (drop prev y)) e) in
+      let now : take prev own ++ drop prev own ≡ own = take-append-drop prev own in
+      subst (Merged own y) (sym now) (record { is = inl refl; has = all; keeps = λ a whole f l e. e }))
       (λ e.
-          let some = eqb-false same (length (drop prev y)) e in
-          subst (Merged own y) (sym (becomes front)) (record {
-            is = inr refl;
-            has = take_all (length y) y (omega arith);
-            keeps = λ a whole f l e.
-                let short = cut some a whole f l e in
-                ap (take a) (sym f) ∙ take-take a (length y) whole short;
-          }))
+      let some = eqb-false same (length (drop prev y)) e in
+      subst (Merged own y) (sym (becomes front)) (record {
+        is = inr refl;
+        has = take_all (length y) y (omega arith);
+        keeps = λ a whole f l e.
+            let short = cut some a whole f l e in
+            ap (take a) (sym f) ∙ take-take a (length y) whole short;
+      }))

@@ -1,27 +1,21 @@
 -- What a node's small moves keep.
-use Rattle.std.proofs.Common.{◌≡◌, ◌≢◌, ◌==◌, ◌&&◌, ℕ, zero, suc, ◌<◌, ◌≤◌, ◌+◌, ◌-◌, min, max, nat_lt, nat_le, cond, Bool, true, false, ◌⊎◌, inl, inr, List, [], ◌∷◌, ◌++◌, length, take, drop, Option, Some, None, refl, sym, ap, subst, ◌∙◌, arith, append_assoc, append-nil, length-append, length-take, length-drop}
-use Rattle.std.proofs.lemmas.Bool.{cases_lt, cases_eq, cond_both, both_ways, eq-eqb, ne_eqb, eqb-true, and_parts, or_cases, or_right, and_from, le-leb, false≢true}
-use Rattle.std.proofs.lemmas.List.{take_all}
+use Rattle.std.proofs.Common.{◌≡◌, ◌==◌, ◌&&◌, ℕ, suc, ◌<◌, ◌≤◌, ◌+◌, nat_lt, nat_le, true, false, ◌⊎◌, inl, inr, List, ◌++◌, length, Option, Some, None, refl, sym, ap, subst, ◌∙◌, arith}
+use Rattle.std.proofs.lemmas.Bool.{cases_lt, both_ways, eq-eqb, eqb-true, or_cases, or_right, and_from, le-leb, false≢true}
 use Rattle.region_map.specs.declared.id.NodeId.{NodeId}
-use Rattle.region_map.specs.Nodes.{has, node_id, is_majority}
-use Rattle.region_map.proofs.Majorities.{majorities_meet}
+use Rattle.region_map.specs.Nodes.{node_id}
 use Rattle.raft_vote.specs.declared.log.LogEntry.{LogEntry}
 use Rattle.raft_vote.specs.declared.votes.Role.{Role}
 use Rattle.raft_vote.specs.declared.votes.Role.TheVariants.{Follower, Candidate, Leader}
 use Rattle.raft_vote.specs.Log.{term_at, last_term}
-use Rattle.raft_vote.specs.State.{VoteState}
-use Rattle.raft_vote.specs.Rows.{alone, is_leader, reaches}
+use Rattle.raft_vote.specs.Rows.{alone, reaches}
 use Rattle.raft_append.specs.declared.peers.Progress.{Progress}
-use Rattle.raft_append.specs.Peers.{progress_at, reset_to}
 use Rattle.raft_node.specs.State.{RaftState}
-use Rattle.raft_node.specs.Rows.{with_entry}
 use Rattle.raft_laws.specs.World.{Sent, World}
-use Rattle.raft_laws.proofs.Logs.{term_at-append, same_terms, shorter, as_long, front_of, Rises, Rises-push, IsUpTo, IsUpTo-more, IsUpTo-push, Match, Merged, merged_is, fits_front}
-use Rattle.raft_laws.proofs.Past.{Past, Ballot, Reign, Cast, Cast-grows, Grows, Grounded, Grounded-grows, Grounded-push, Grounded-front, matching, one_reign, for_whom}
-use Rattle.raft_laws.proofs.Claims.{Between, Holds, Holds-grows, Decided, Certified, Certified-grows, Certified-other, Certified-within, Rival, BallotOk, BallotOk-grows, ReignOk, ReignOk-grows, PastOk}
-use Rattle.raft_laws.proofs.Completeness.{has_certified, last_rises}
-use Rattle.raft_laws.proofs.Nodes.{NodeOk, RoleOk, Stands, Stands-grows, Leads, AckOk, IsPast, Shipped, Beside, Beside-more, is_candidate, Here, Comes, stay, go_on, goes_to, sends, moves}
-use Rattle.raft_laws.proofs.Ghosts.{with_ballot, with_ballot-at, with_ballot-term, with_ballot-beside, with_ballot-past, with_reign, with_reign-at, with_reign-term, with_reign-beside, with_reign-past, IsLonger, with_ack, with_ack-at, with_ack-term, with_ack-beside, with_ack-past}
+use Rattle.raft_laws.proofs.Logs.{as_long, front_of, IsUpTo-more}
+use Rattle.raft_laws.proofs.Past.{Past, Ballot, Reign, Grows, Grounded-grows, for_whom}
+use Rattle.raft_laws.proofs.Claims.{Holds, Holds-grows, Certified, Certified-grows, Certified-other, Rival, BallotOk, PastOk}
+use Rattle.raft_laws.proofs.Nodes.{NodeOk, RoleOk, Stands-grows, AckOk, is_candidate, Here, Comes, moves}
+use Rattle.raft_laws.proofs.Ghosts.{with_ballot, with_ballot-at, with_ballot-term, with_ballot-beside, with_ballot-past}
 
 -- ---- what the past is not concerned with
 

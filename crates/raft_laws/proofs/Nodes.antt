@@ -1,24 +1,23 @@
 -- What holds of a node and of a message, by what a run left behind.
-use Rattle.std.proofs.Common.{◌≡◌, ◌==◌, ℕ, zero, suc, ◌<◌, ◌≤◌, ◌+◌, Bool, true, false, ◌⊎◌, inl, inr, List, [], ◌∷◌, ◌++◌, length, take, drop, Option, Some, None, refl, sym, ap, subst, ◌∙◌, arith, length-append, length-take}
-use Rattle.std.proofs.lemmas.Bool.{cases_lt, both_ways, eq-eqb}
+use Rattle.std.proofs.Common.{◌≡◌, ◌==◌, ℕ, suc, ◌<◌, ◌≤◌, Bool, true, false, ◌⊎◌, inl, inr, List, ◌++◌, length, take, drop, Some, None, refl, sym, ap, subst, ◌∙◌, arith, length-take}
+use Rattle.std.proofs.lemmas.Bool.{both_ways, eq-eqb}
 use Rattle.std.specs.List.{AllByRecursion}
 use Rattle.region_map.specs.declared.id.NodeId.{NodeId}
-use Rattle.region_map.specs.Nodes.{has, node_id, is_majority}
+use Rattle.region_map.specs.Nodes.{has, node_id}
 use Rattle.raft_vote.specs.declared.log.LogEntry.{LogEntry}
 use Rattle.raft_vote.specs.declared.message.RaftMessage.{RaftMessage}
 use Rattle.raft_vote.specs.declared.message.RaftMessage.TheVariants.{VoteAsk, VoteSay, Append, AppendSay}
 use Rattle.raft_vote.specs.declared.votes.Role.{Role}
 use Rattle.raft_vote.specs.declared.votes.Role.TheVariants.{Follower, Candidate, Leader}
 use Rattle.raft_vote.specs.Log.{term_at, last_term}
-use Rattle.raft_vote.specs.State.{VoteState}
 use Rattle.raft_append.specs.declared.peers.Progress.{Progress}
 use Rattle.raft_append.specs.Peers.{progress_at}
 use Rattle.raft_node.specs.State.{RaftState}
 use Rattle.schedule_laws.proofs.Lists.{All-append, All-weaker}
 use Rattle.raft_laws.specs.World.{Sent, World}
-use Rattle.raft_laws.proofs.Logs.{as_long, front_of, IsUpTo}
+use Rattle.raft_laws.proofs.Logs.{front_of, IsUpTo}
 use Rattle.raft_laws.proofs.Past.{Past, Ballot, Reign, Cast, Cast-grows, Grows, Grows-same, Grows-more, Grounded, Grounded-grows, for_whom}
-use Rattle.raft_laws.proofs.Claims.{Between, Holds, Holds-grows, Certified, Certified-grows, Certified-other, Certified-within, PastOk}
+use Rattle.raft_laws.proofs.Claims.{Holds, Holds-grows, Certified, Certified-grows, Certified-other, Certified-within, PastOk}
 
 abbrev pub is_candidate : Role → Bool
 is_candidate Follower = false

@@ -1,15 +1,11 @@
 -- What a run leaves behind: the votes that were cast, the logs that led, and how far nodes said that they agree.
-use Rattle.std.proofs.Common.{◌≡◌, ℕ, zero, suc, ◌<◌, ◌≤◌, ◌+◌, inl, inr, true, false, List, [], ◌∷◌, ◌++◌, length, take, drop, Option, Some, None, refl, sym, ap, subst, ◌∙◌, arith, append_assoc, append-nil, length-append, length-take}
+use Rattle.std.proofs.Common.{◌≡◌, ℕ, zero, suc, ◌<◌, ◌≤◌, ◌+◌, inl, inr, List, [], ◌∷◌, ◌++◌, length, take, Option, Some, None, refl, sym, ap, ◌∙◌, arith, append_assoc, append-nil, length-append, length-take}
 use Rattle.std.proofs.lemmas.Bool.{cases_lt}
 use Rattle.std.proofs.lemmas.List.{take_all}
 use Rattle.region_map.specs.declared.id.NodeId.{NodeId}
-use Rattle.region_map.specs.Nodes.{has, node_id, is_majority}
 use Rattle.raft_vote.specs.declared.log.LogEntry.{LogEntry}
-use Rattle.raft_vote.specs.declared.message.RaftMessage.{RaftMessage}
-use Rattle.raft_vote.specs.declared.message.RaftMessage.TheVariants.{VoteAsk, VoteSay, Append, AppendSay}
-use Rattle.raft_vote.specs.Log.{term_at, last_term}
-use Rattle.raft_vote.specs.Rows.{reaches}
-use Rattle.raft_laws.proofs.Logs.{term_at-append, term_at_last, term_at-take, same_terms, shorter, as_long, front_of, Rises, IsUpTo, Match}
+use Rattle.raft_vote.specs.Log.{term_at}
+use Rattle.raft_laws.proofs.Logs.{term_at-append, term_at_last, same_terms, shorter, as_long, front_of, Match}
 
 -- a vote, the log that the voter had, and the term from which on no leader had changed that log
 pub record Ballot (E : Type 0) : Type 0 where

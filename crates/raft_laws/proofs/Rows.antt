@@ -1,6 +1,6 @@
 -- What each row of a step keeps.
-use Rattle.std.proofs.Common.{◌≡◌, ◌==◌, ◌&&◌, ◌||◌, ℕ, zero, suc, ◌<◌, ◌≤◌, ◌+◌, ◌-◌, min, max, nat_lt, nat_le, cond, not, Bool, true, false, ◌⊎◌, inl, inr, List, [], ◌∷◌, ◌++◌, length, map, take, drop, Option, Some, None, refl, sym, ap, subst, ◌∙◌, arith, append-nil, append_assoc, slice_set}
-use Rattle.std.proofs.lemmas.Bool.{cases_lt, cases_eq, cases_Bool, cond_both, eq-eqb, eqb-true, and_parts, and_right, and_left, or_cases, ltb-true, ltb-false, both_ways, false≢true}
+use Rattle.std.proofs.Common.{◌≡◌, ◌==◌, ◌&&◌, ℕ, ◌≤◌, ◌+◌, ◌-◌, min, max, nat_lt, not, Bool, true, false, ◌⊎◌, inl, inr, List, [], ◌∷◌, ◌++◌, length, map, take, drop, Option, Some, None, refl, sym, ap, subst, ◌∙◌, arith, append-nil, append_assoc, slice_set}
+use Rattle.std.proofs.lemmas.Bool.{cond_both, eqb-true, and_parts, and_right, and_left, or_cases, ltb-true, ltb-false, both_ways, false≢true}
 use Rattle.std.proofs.lemmas.List.{take_all}
 use Rattle.std.specs.List.{AllByRecursion}
 use Rattle.region_map.specs.declared.id.NodeId.{NodeId}
@@ -11,22 +11,20 @@ use Rattle.raft_vote.specs.declared.message.RaftMessage.{RaftMessage}
 use Rattle.raft_vote.specs.declared.message.RaftMessage.TheVariants.{VoteAsk, VoteSay, Append, AppendSay}
 use Rattle.raft_vote.specs.declared.votes.Role.{Role}
 use Rattle.raft_vote.specs.declared.votes.Role.TheVariants.{Follower, Candidate, Leader}
-use Rattle.raft_vote.specs.Log.{term_at, last_term}
+use Rattle.raft_vote.specs.Log.{last_term}
 use Rattle.raft_vote.specs.State.{VoteState}
-use Rattle.raft_vote.specs.Rows.{Asking, Voting, alone, others, is_leader, wins, with_grants, election, starts_election, waiting, vote_tick, asks, take_term, following, is_free, reaches, grants, with_vote, vote_asked, counted, vote_said}
+use Rattle.raft_vote.specs.Rows.{Asking, alone, others, is_leader, wins, with_grants, election, starts_election, waiting, vote_tick, asks, take_term, following, is_free, reaches, grants, with_vote, counted, vote_said}
 use Rattle.raft_append.specs.Merge.{Taken, fits, merged, taken}
 use Rattle.raft_append.specs.Peers.{progress_at, progressed, reset_to}
 use Rattle.raft_node.specs.declared.input.RaftInput.{RaftInput}
 use Rattle.raft_node.specs.declared.input.RaftInput.TheVariants.{Tick, Deliver}
 use Rattle.raft_node.specs.State.{RaftState}
 use Rattle.raft_node.specs.Rows.{RaftStepped, is_full, append_to, append_all, with_entry, won, elected, elect_row, tick_row, ask_row, vote_row, answered, append_row, say_row, deliver_row, input_row, advanced, raft_step, proposed}
-use Rattle.schedule_laws.proofs.Lists.{All-map_of}
 use Rattle.raft_laws.specs.World.{Sent, World, posted}
-use Rattle.raft_laws.proofs.Past.{Past, Ballot, Reign, Cast, Cast-grows, Grows, for_whom}
-use Rattle.raft_laws.proofs.Claims.{Rival, PastOk}
-use Rattle.raft_laws.proofs.Nodes.{NodeOk, RoleOk, Stands, Leads, Asked, Shipped, IsSo, IsSo-grows, is_candidate, Here, Comes, stay, go_on, goes_to, sends}
-use Rattle.raft_laws.proofs.Moves.{takes_term, turns, votes_for, stands, ballot}
-use Rattle.raft_laws.proofs.Leading.{wins_term, appends, leads_of, not_candidate}
+use Rattle.raft_laws.proofs.Past.{Past, Ballot, Cast, Cast-grows, Grows, for_whom}
+use Rattle.raft_laws.proofs.Nodes.{NodeOk, RoleOk, Stands, Asked, Shipped, IsSo, IsSo-grows, is_candidate, Comes, go_on, goes_to, sends}
+use Rattle.raft_laws.proofs.Moves.{takes_term, turns, votes_for, stands}
+use Rattle.raft_laws.proofs.Leading.{wins_term, appends, leads_of}
 use Rattle.raft_laws.proofs.Following.{takes}
 use Rattle.raft_laws.proofs.Counting.{advances, hears}
 
@@ -35,7 +33,7 @@ posted-append n [] ys = refl
 posted-append n (x ∷ xs) ys = ap (λ zs. record { from = node_id n; to = x.0; message = x.1 } ∷ zs) (posted-append n xs ys)
 
 -- a vote that a node has was cast
-cast_of : {E : Type 0} (p : Past E) (k t : ℕ) (c : NodeId) (x : Option (Ballot E)) → p.ballots k t ≡ x → for_whom x ≡ Some c → Cast p k t c
+pub cast_of : {E : Type 0} (p : Past E) (k t : ℕ) (c : NodeId) (x : Option (Ballot E)) → p.ballots k t ≡ x → for_whom x ≡ Some c → Cast p k t c
 cast_of p k t c None e f = absurd (cc f)
 cast_of p k t c (Some b) e f = let same : b.for_node ≡ c = cc in record { ballot = b; is = e; self = same }
 
@@ -98,7 +96,7 @@ module _ {E : Type 0} (nodes : List ℕ) (w : World E) (n : ℕ) (p : Past E) (x
         ap (q.ballots from.0) same ∙ g.ballots from.0 term asked.ballot asked.is,
         asked.self,
         ap (λ v. reaches v (length asked.ballot.log) (last_term s.log) (length s.log)) (sym asked.last_is)
-        ∙ ap (λ v. reaches last v (last_term s.log) (length s.log)) (sym asked.index_is) ∙ one.1,
+            ∙ ap (λ v. reaches last v (last_term s.log) (length s.log)) (sym asked.index_is) ∙ one.1,
       )) c
 
   asked_goes : (s : RaftState E) (from : NodeId) (term last index : ℕ) → Asked p from term last index → Comes nodes w n p s xs → (let r = ask_row s from term last index in Goes r.node r.sent)
@@ -144,17 +142,17 @@ module _ {E : Type 0} (nodes : List ℕ) (w : World E) (n : ℕ) (p : Past E) (x
       sends nodes w n p (record s { votes = cand }) xs (posted n (f u.term)) (λ q g o. says q u.term granted g o.role) c in
       cond_both (is_majority granted u.nodes) lead cand (λ (v : VoteState). Outcome s v (f v.term))
       (λ e.
-          let win : wins s.votes lead ≡ true = ap (λ b. not b && true) follows in
-          inr (record {
-            wins_is = win;
-            before = cand;
-            granted = granted;
-            refused = refused;
-            stood = refl;
-            most = subst (λ (ns : List ℕ). is_majority granted ns ≡ true) all e;
-            is = refl;
-            comes = comes;
-          }))
+      let win : wins s.votes lead ≡ true = ap (λ b. not b && true) follows in
+      inr (record {
+        wins_is = win;
+        before = cand;
+        granted = granted;
+        refused = refused;
+        stood = refl;
+        most = subst (λ (ns : List ℕ). is_majority granted ns ≡ true) all e;
+        is = refl;
+        comes = comes;
+      }))
       (λ _. inl (record { wins_not = no_win s.votes cand refl; comes = comes }))
 
   -- a new leader's log, and what it says of it
@@ -189,8 +187,8 @@ module _ {E : Type 0} (nodes : List ℕ) (w : World E) (n : ℕ) (p : Past E) (x
       let led : Comes nodes w n p t ys =
       go_on nodes w n p before t ys ys r.comes
       (λ q g h.
-          let st : Stands q n r.before.term s.log r.granted = subst (λ (x : Role). RoleOk q n x r.before.term s.log s.peers) r.stood h.self.role in
-          wins_term nodes w n q before ys h r.granted st (ap is_candidate r.stood) r.most (Some r.before.me) (length s.log + 1)) in
+      let st : Stands q n r.before.term s.log r.granted = subst (λ (x : Role). RoleOk q n x r.before.term s.log s.peers) r.stood h.self.role in
+      wins_term nodes w n q before ys h r.granted st (ap is_candidate r.stood) r.most (Some r.before.me) (length s.log + 1)) in
       let done : Comes nodes w n p (won noop (record s { votes = after })) ys =
       cond_both (is_full s.log) t (with_entry t noop) (λ (x : RaftState E). Comes nodes w n p x ys)
       (λ _. led)
@@ -254,12 +252,12 @@ module _ {E : Type 0} (nodes : List ℕ) (w : World E) (n : ℕ) (p : Past E) (x
       cond_both (is_leader s.votes.role) (record { node = s; sent = append_all s }) (elect_row noop s unseen) (λ (r : RaftStepped E). Goes r.node r.sent)
       (λ leading. says_all s xs leading c)
       (λ follows.
-          let outcome : (let a = vote_tick s.votes unseen in Outcome s a.node (asks a.node.term (last_term s.log) (length s.log) a.asked)) =
-          cond_both (starts_election s.votes.role s.votes unseen) (election s.votes) (waiting s.votes.role s.votes) (λ (a : Asking). Outcome s a.node (asks a.node.term (last_term s.log) (length s.log) a.asked))
-          (λ _. election_outcome s follows (λ q o. o.all) c)
-          (λ _. waiting_outcome s s.votes.role refl follows c) in
-          let a = vote_tick s.votes unseen in
-          elected_goes noop s a.node (asks a.node.term (last_term s.log) (length s.log) a.asked) outcome)
+      let outcome : (let a = vote_tick s.votes unseen in Outcome s a.node (asks a.node.term (last_term s.log) (length s.log) a.asked)) =
+      cond_both (starts_election s.votes.role s.votes unseen) (election s.votes) (waiting s.votes.role s.votes) (λ (a : Asking). Outcome s a.node (asks a.node.term (last_term s.log) (length s.log) a.asked))
+      (λ _. election_outcome s follows (λ q o. o.all) c)
+      (λ _. waiting_outcome s s.votes.role refl follows c) in
+      let a = vote_tick s.votes unseen in
+      elected_goes noop s a.node (asks a.node.term (last_term s.log) (length s.log) a.asked) outcome)
 
   -- ---- told of a vote
 
@@ -275,39 +273,39 @@ module _ {E : Type 0} (nodes : List ℕ) (w : World E) (n : ℕ) (p : Past E) (x
       let follows : is_leader s.votes.role ≡ false = ap is_leader (take_term-role s.votes term (Candidate votes refused) (λ e. cc e) is) in
       cond_both (t.votes.term == term) (with_grants t.votes more refused) t.votes (λ (v : VoteState). Outcome s v [])
       (λ same.
-          let term_is : t.votes.term ≡ term = eqb-true t.votes.term term same in
-          let cand : RaftState E = record s { votes = record t.votes { role = role } } in
-          granted_outcome s t.votes more refused (λ _. []) follows (c.here.self.all) (λ q k v g st. tt)
-          (goes_to nodes w n p t cand xs
-          (λ q g ok o.
-              let st : Stands q n t.votes.term s.log votes = subst (λ (x : Role). RoleOk q n x t.votes.term s.log s.peers) is o.role in
-              let new : Cast q from.0 t.votes.term (node_id n) = subst (λ (x : ℕ). Cast q from.0 x (node_id n)) (sym term_is) (Cast-grows p q from.0 term (node_id n) g so) in
-              let now : Stands q n t.votes.term s.log more =
-              record {
-                counted = λ k e.
-                    elim (or_cases (from.0 == k) (has votes k) (sym (has-with_member votes from.0 k) ∙ e)) [
-                      | inl one ↦ subst (λ (x : ℕ). Cast q x t.votes.term (node_id n)) (eqb-true from.0 k one) new
-                      | inr old ↦ st.counted k old
-                    ];
-                bound = st.bound;
-                own = st.own;
-                below = st.below;
-              } in
-              turns nodes q n t o role t.votes.leader now (λ _. ap is_candidate is)) c))
+      let term_is : t.votes.term ≡ term = eqb-true t.votes.term term same in
+      let cand : RaftState E = record s { votes = record t.votes { role = role } } in
+      granted_outcome s t.votes more refused (λ _. []) follows (c.here.self.all) (λ q k v g st. tt)
+      (goes_to nodes w n p t cand xs
+      (λ q g ok o.
+      let st : Stands q n t.votes.term s.log votes = subst (λ (x : Role). RoleOk q n x t.votes.term s.log s.peers) is o.role in
+      let new : Cast q from.0 t.votes.term (node_id n) = subst (λ (x : ℕ). Cast q from.0 x (node_id n)) (sym term_is) (Cast-grows p q from.0 term (node_id n) g so) in
+      let now : Stands q n t.votes.term s.log more =
+      record {
+        counted = λ k e.
+            elim (or_cases (from.0 == k) (has votes k) (sym (has-with_member votes from.0 k) ∙ e)) [
+              | inl one ↦ subst (λ (x : ℕ). Cast q x t.votes.term (node_id n)) (eqb-true from.0 k one) new
+              | inr old ↦ st.counted k old
+            ];
+        bound = st.bound;
+        own = st.own;
+        below = st.below;
+      } in
+      turns nodes q n t o role t.votes.leader now (λ _. ap is_candidate is)) c))
       (λ _. inl (record { wins_not = no_win s.votes t.votes (ap is_leader is); comes = quiet t c }))
   counted_outcome s from term false so c (Candidate votes refused) is =
       let t : RaftState E = record s { votes = take_term s.votes term } in
       let v : VoteState = record t.votes { role = Candidate votes true } in
       cond_both (t.votes.term == term) v t.votes (λ (x : VoteState). Outcome s x [])
       (λ _.
-          let cand : RaftState E = record s { votes = v } in
-          inl (record {
-            wins_not = no_win s.votes v refl;
-            comes = quiet cand (goes_to nodes w n p t cand xs
+      let cand : RaftState E = record s { votes = v } in
+      inl (record {
+        wins_not = no_win s.votes v refl;
+        comes = quiet cand (goes_to nodes w n p t cand xs
             (λ q g ok o.
-                let st : Stands q n t.votes.term s.log votes = subst (λ (x : Role). RoleOk q n x t.votes.term s.log s.peers) is o.role in
-                turns nodes q n t o (Candidate votes true) t.votes.leader st (λ _. ap is_candidate is)) c);
-          }))
+            let st : Stands q n t.votes.term s.log votes = subst (λ (x : Role). RoleOk q n x t.votes.term s.log s.peers) is o.role in
+            turns nodes q n t o (Candidate votes true) t.votes.leader st (λ _. ap is_candidate is)) c);
+      }))
       (λ _. inl (record { wins_not = no_win s.votes t.votes (ap is_leader is); comes = quiet t c }))
   counted_outcome s from term granted so c Leader is =
       let t : RaftState E = record s { votes = take_term s.votes term } in
@@ -330,19 +328,19 @@ module _ {E : Type 0} (nodes : List ℕ) (w : World E) (n : ℕ) (p : Past E) (x
       (λ (r : RaftStepped E). Goes r.node r.sent)
       (λ _. sends nodes w n p s xs (posted n ((from, AppendSay s.votes.term false 0) ∷ [])) (λ q g o. (tt, tt)) c)
       (λ e.
-          let same : f.votes.term ≡ term = take_term-term s.votes term (ltb-false term s.votes.term e) in
-          let comes : Comes nodes w n p f xs =
-          goes_to nodes w n p t f xs (λ q g ok o. turns nodes q n t o Follower (Some from) tt (λ (e : false ≡ true). absurd (false≢true e))) (takes_any s term c) in
-          cond_both (fits s.log prev prev_term)
-          (record { log = take prev s.log ++ merged (drop prev s.log) entries; view = max s.view (min commit (prev + length entries)); ok = true; upto = prev + length entries })
-          (record { log = s.log; view = s.view; ok = false; upto = min (prev - 1) (length s.log) })
-          (λ (x : Taken E). let r = answered f from x in Goes r.node r.sent)
-          (λ fit.
-              go_on nodes w n p f (record f { log = take prev s.log ++ merged (drop prev s.log) entries; view = max s.view (min commit (prev + length entries)) }) xs
-              (xs ++ posted n ((from, AppendSay f.votes.term true (prev + length entries)) ∷ [])) comes
-              (λ q g h. takes nodes w n q f xs h refl from prev prev_term entries commit
-              (subst (λ (k : ℕ). Shipped nodes q k prev prev_term entries commit) (sym same) (IsSo-grows nodes p q g from (node_id n) (Append term prev prev_term entries commit) shipped)) fit))
-          (λ _. sends nodes w n p f xs (posted n ((from, AppendSay f.votes.term false (min (prev - 1) (length s.log))) ∷ [])) (λ q g o. (tt, tt)) comes))
+      let same : f.votes.term ≡ term = take_term-term s.votes term (ltb-false term s.votes.term e) in
+      let comes : Comes nodes w n p f xs =
+      goes_to nodes w n p t f xs (λ q g ok o. turns nodes q n t o Follower (Some from) tt (λ (e : false ≡ true). absurd (false≢true e))) (takes_any s term c) in
+      cond_both (fits s.log prev prev_term)
+      (record { log = take prev s.log ++ merged (drop prev s.log) entries; view = max s.view (min commit (prev + length entries)); ok = true; upto = prev + length entries })
+      (record { log = s.log; view = s.view; ok = false; upto = min (prev - 1) (length s.log) })
+      (λ (x : Taken E). let r = answered f from x in Goes r.node r.sent)
+      (λ fit.
+      go_on nodes w n p f (record f { log = take prev s.log ++ merged (drop prev s.log) entries; view = max s.view (min commit (prev + length entries)) }) xs
+      (xs ++ posted n ((from, AppendSay f.votes.term true (prev + length entries)) ∷ [])) comes
+      (λ q g h. takes nodes w n q f xs h refl from prev prev_term entries commit
+      (subst (λ (k : ℕ). Shipped nodes q k prev prev_term entries commit) (sym same) (IsSo-grows nodes p q g from (node_id n) (Append term prev prev_term entries commit) shipped)) fit))
+      (λ _. sends nodes w n p f xs (posted n ((from, AppendSay f.votes.term false (min (prev - 1) (length s.log))) ∷ [])) (λ q g o. (tt, tt)) comes))
 
   say_so : (q : Past E) (from : NodeId) (term : ℕ) (ok : Bool) (upto : ℕ) → IsSo nodes q from (node_id n) (AppendSay term ok upto) → ok ≡ true → upto ≤ q.acks from.0 term
   say_so q from term true upto so e = so
@@ -355,11 +353,11 @@ module _ {E : Type 0} (nodes : List ℕ) (w : World E) (n : ℕ) (p : Past E) (x
       let told : RaftState E = record t { peers = slice_set s.peers from.0 (progressed (progress_at s.peers from.0) (length s.log) ok upto) } in
       cond_both (is_leader t.votes.role && (t.votes.term == term)) told t (λ (x : RaftState E). Goes x [])
       (λ e.
-          let both = and_parts (is_leader t.votes.role) (t.votes.term == term) e in
-          let same : t.votes.term ≡ term = eqb-true t.votes.term term both.1 in
-          quiet told (goes_to nodes w n p t told xs
-          (λ q g good o. hears nodes q n t o both.0 from ok upto
-          (λ is. subst (λ (k : ℕ). upto ≤ q.acks from.0 k) (sym same) (say_so q from term ok upto (IsSo-grows nodes p q g from (node_id n) (AppendSay term ok upto) so) is))) comes))
+      let both = and_parts (is_leader t.votes.role) (t.votes.term == term) e in
+      let same : t.votes.term ≡ term = eqb-true t.votes.term term both.1 in
+      quiet told (goes_to nodes w n p t told xs
+      (λ q g good o. hears nodes q n t o both.0 from ok upto
+      (λ is. subst (λ (k : ℕ). upto ≤ q.acks from.0 k) (sym same) (say_so q from term ok upto (IsSo-grows nodes p q g from (node_id n) (AppendSay term ok upto) so) is))) comes))
       (λ _. quiet t comes)
 
   -- ---- a step

@@ -6,5 +6,9 @@
 #![tactic(auto)]
 
 pub use event::RaftEvent;
+pub use laws::{
+    deliveries_fit, leaders_complete, logs_match, nodes_agree, one_leader, views_grow, votes_last,
+};
 
 pub mod event;
+pub mod laws;
