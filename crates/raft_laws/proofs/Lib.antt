@@ -13,3 +13,4 @@ pub mod Runs
 pub mod Fitting
 pub mod Moments
 pub mod Lasting
+pub mod Nets

@@ -10,13 +10,9 @@ use Rattle.raft_node.specs.declared.input.RaftInput.TheVariants.{Tick as InputTi
 use Rattle.raft_node.specs.State.{RaftState, begun, kept_of}
 use Rattle.raft_node.specs.Rows.{raft_step, ends_numbers, proposed, is_full}
 use Rattle.raft_laws.specs.declared.event.RaftEvent.{RaftEvent}
+pub use Rattle.raft_laws.specs.declared.event.Sent.{Sent}
 use Rattle.raft_laws.specs.declared.event.RaftEvent.TheVariants.{Tick, Propose, Deliver, Crash, Restart}
 use Rattle.schedule_laws.specs.Schedules.{set_at, run}
-
-pub record Sent (E : Type 0) : Type 0 where
-  pub from : NodeId
-  pub to : NodeId
-  pub message : RaftMessage E
 
 pub record World (E : Type 0) : Type 0 where
   pub node : ℕ → RaftState E

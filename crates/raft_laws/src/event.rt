@@ -1,5 +1,6 @@
 //! What may happen to a node in a run.
-use region_map::NodeSet;
+use raft_vote::RaftMessage;
+use region_map::{NodeId, NodeSet};
 
 /// An event at one node. A loss is a delivery that never comes.
 #[derive(Drop)]
@@ -14,4 +15,12 @@ pub enum RaftEvent<E> {
     Crash,
     /// The node comes up again with what it kept.
     Restart,
+}
+
+/// A message that was sent.
+#[derive(Drop)]
+pub struct Sent<E> {
+    pub from: NodeId,
+    pub to: NodeId,
+    pub message: RaftMessage<E>,
 }

@@ -5,10 +5,11 @@
 //! no two nodes lead in one term, and no two nodes act on different lists of changes.
 #![tactic(auto)]
 
-pub use event::RaftEvent;
+pub use event::{RaftEvent, Sent};
 pub use laws::{
     deliveries_fit, leaders_complete, logs_match, nodes_agree, one_leader, views_grow, votes_last,
 };
 
 pub mod event;
 pub mod laws;
+pub mod world;
