@@ -1,8 +1,8 @@
 -- A world in code that goes on by an event is still one that a run leads to.
-use Rattle.std.proofs.Common.{◌≡◌, ◌==◌, ◌&&◌, ℕ, zero, suc, ◌<◌, ◌≤◌, nat_lt, cond, not, Bool, true, false, ◌⊎◌, inl, inr, List, [], ◌∷◌, ◌++◌, length, take, set, get_or, Result, Ok, Err, OnOk, IsErrOf, IsErrAnd, slice_get, Option, Some, None, refl, sym, ap, ap₂, subst, ◌∙◌, arith, le_refl, replicate, length-set, length-append, get_or-set_same, get_or-set_other}
+use Rattle.std.proofs.Common.{◌≡◌, ◌==◌, ◌&&◌, ℕ, ◌<◌, ◌≤◌, nat_lt, cond, not, Bool, true, false, ◌⊎◌, inl, inr, List, [], ◌∷◌, ◌++◌, length, take, set, get_or, Result, Ok, Err, OnOk, IsErrOf, IsErrAnd, Option, Some, None, refl, sym, ap, subst, ◌∙◌, arith, replicate, length-append, get_or-set_same, get_or-set_other}
 use Rattle.std.proofs.Math.Path.{fun_ext}
 use Rattle.std.proofs.lemmas.List.{get_or_default, get_or-replicate, get_or_past, length-replicate, take_all}
-use Rattle.std.proofs.lemmas.Bool.{cond_both, eqb-true, cases_eq, cases_lt, eq-eqb, ne_eqb, lt-ltb, not_from_false}
+use Rattle.std.proofs.lemmas.Bool.{cond_both, eqb-true, cases_eq, cases_lt, eq-eqb, ne_eqb, lt-ltb}
 use Rattle.region_map.specs.declared.id.NodeId.{NodeId}
 use Rattle.region_map.specs.Nodes.{node_id}
 use Rattle.raft_node.specs.declared.input.RaftInput.{RaftInput}
@@ -11,7 +11,7 @@ use Rattle.raft_node.specs.State.{RaftState}
 use Rattle.raft_vote.specs.declared.log.LogEntry.{LogEntry}
 use Rattle.raft_vote.specs.Rows.{is_leader}
 use Rattle.raft_node.specs.Rows.{proposed, is_full, raft_step, ends_numbers, is_well_formed}
-use Rattle.schedule_laws.specs.Schedules.{set_at, run}
+use Rattle.schedule_laws.specs.Schedules.{set_at}
 use Rattle.schedule_laws.proofs.Runs.{run-push}
 use Rattle.raft_laws.specs.declared.event.RaftEvent.{RaftEvent}
 use Rattle.raft_laws.specs.declared.event.RaftEvent.TheVariants.{Tick, Propose, Deliver, Crash, Restart}
@@ -95,28 +95,28 @@ module _ {E : Type 0} (noop : E) (nodes : ℕ) where
   set_is : (states : List (RaftState E)) (n : ℕ) (t : RaftState E) → n < length states → (λ (k : ℕ). node_in nodes (set states n t) k) ≡ set_at (λ k. node_in nodes states k) n t
   set_is states n t h =
       fun_ext (λ k.
-          elim (cases_eq k n) [
-            | inl same ↦
-                let test = eq-eqb k n same in
-                let within : k < length states = omega (arith, same, h) in
-                rw test (ap (λ m. node_in nodes (set states m t) k) (sym same) ∙ get_or-set_same states k t (node_in nodes [] k) within)
-            | inr other ↦
-                let test = ne_eqb k n other in
-                rw test (get_or-set_other states n k t (node_in nodes [] k) other)
-          ])
+      elim (cases_eq k n) [
+        | inl same ↦
+            let test = eq-eqb k n same in
+            let within : k < length states = omega (arith, same, h) in
+            rw test (ap (λ m. node_in nodes (set states m t) k) (sym same) ∙ get_or-set_same states k t (node_in nodes [] k) within)
+        | inr other ↦
+            let test = ne_eqb k n other in
+            rw test (get_or-set_other states n k t (node_in nodes [] k) other)
+      ])
 
   ups_is : (up : List Bool) (n : ℕ) (b : Bool) → n < length up → (λ (k : ℕ). up_in (set up n b) k) ≡ set_at (λ k. up_in up k) n b
   ups_is up n b h =
       fun_ext (λ k.
-          elim (cases_eq k n) [
-            | inl same ↦
-                let test = eq-eqb k n same in
-                let within : k < length up = omega (arith, same, h) in
-                rw test (ap (λ m. up_in (set up m b) k) (sym same) ∙ get_or-set_same up k b true within)
-            | inr other ↦
-                let test = ne_eqb k n other in
-                rw test (get_or-set_other up n k b true other)
-          ])
+      elim (cases_eq k n) [
+        | inl same ↦
+            let test = eq-eqb k n same in
+            let within : k < length up = omega (arith, same, h) in
+            rw test (ap (λ m. up_in (set up m b) k) (sym same) ∙ get_or-set_same up k b true within)
+        | inr other ↦
+            let test = ne_eqb k n other in
+            rw test (get_or-set_other up n k b true other)
+      ])
 
 -- what a node acts on, as it is read from the lists
 pub committed_agrees : {E : Type 0} (noop : E) (nodes : ℕ) (states : List (RaftState E)) (up : List Bool) (sent : List (Sent E)) → IsReached noop nodes states up sent → (v : RaftNet E) → record { nodes = nodes; states = states; ups = up; sent = sent } ≡ v

@@ -2,7 +2,6 @@
 use Rattle.std.specs.Prelude.{◌≡◌, ◌≤◌, ℕ, Bool, true, false, not, ◌&&◌, if◌then◌else◌, List, [], ◌++◌, length, slice_index_or, slice_set, Option, Some, None}
 use Rattle.region_map.specs.declared.id.NodeId.{NodeId}
 use Rattle.region_map.specs.Nodes.{node_id}
-use Rattle.raft_node.specs.declared.input.RaftInput.{RaftInput}
 use Rattle.raft_node.specs.declared.input.RaftInput.TheVariants.{Tick as InputTick, Deliver as InputDeliver}
 use Rattle.raft_node.specs.State.{RaftState, begun}
 use Rattle.raft_vote.specs.Rows.{is_leader}

@@ -1,4 +1,4 @@
-use Rattle.std.proofs.Common.{◌∙◌, sym, arith}
+use Rattle.std.proofs.Common.{arith}
 use Rattle.raft_laws.proofs.Nets.{reached_begins}
 use Rattle.raft_laws.proofs.world.RaftWorld.begin.Goals as goal
 
