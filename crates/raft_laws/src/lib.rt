@@ -9,7 +9,10 @@ pub use event::{RaftEvent, Sent};
 pub use laws::{
     deliveries_fit, leaders_complete, logs_match, nodes_agree, one_leader, views_grow, votes_last,
 };
+pub use world::{RaftPushRefused, RaftWorld};
 
 pub mod event;
 pub mod laws;
+#[cfg(test)]
+mod tests;
 pub mod world;

@@ -105,6 +105,13 @@ impl<E: RaftEntry> RaftWorld<E> {
         })
     }
 
+    /// How many nodes there are.
+    pub fn nodes(&self) -> u8
+        ensures { result ≡ self.now.nodes }
+    {
+        self.count
+    }
+
     /// What a node acts on. Of any two of these, at this moment or at others of a run, one is a front of the other:
     /// `push` only makes them longer.
     pub fn committed(&self, node: NodeId) -> &[LogEntry<E>]
