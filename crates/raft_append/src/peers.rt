@@ -41,6 +41,14 @@ impl Peers {
         Ok(Peers { items })
     }
 
+    /// The same knowledge again.
+    pub fn copy(&self, alloc: Global) -> Result<Peers, OutOfMemory>
+        ensures { IfOk result (λ copy. copy ≡ self.now) }
+    {
+        let items = Vec::from_slice(alloc, &self.items)?;
+        Ok(Peers { items })
+    }
+
     pub fn get(&self, n: NodeId) -> Progress
         ensures { result ≡ progress_at self.now n.0 }
     {

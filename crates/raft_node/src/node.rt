@@ -80,6 +80,21 @@ impl<E: RaftEntry> RaftNode<E> {
         })
     }
 
+    /// The same node again.
+    pub fn copy(&self, alloc: Global) -> Result<RaftNode<E>, OutOfMemory>
+        ensures { IfOk result (λ node. node ≡ self.now) }
+    {
+        let (votes, view) = (self.votes.clone()?, self.view);
+        let log = self.log.copy(alloc)?;
+        let peers = self.peers.copy(alloc)?;
+        Ok(RaftNode {
+            votes,
+            log,
+            view,
+            peers,
+        })
+    }
+
     /// What a crash leaves.
     pub fn into_kept(self) -> RaftKept<E>
         ensures kept { result ≡ kept_of self }

@@ -1,0 +1,16 @@
+pub mod Logs
+pub mod Past
+pub mod Claims
+pub mod Completeness
+pub mod Nodes
+pub mod Ghosts
+pub mod Moves
+pub mod Leading
+pub mod Following
+pub mod Counting
+pub mod Rows
+pub mod Runs
+pub mod Fitting
+pub mod Moments
+pub mod Lasting
+pub mod Nets

@@ -1,0 +1,119 @@
+ghost use Rattle.std.specs.Prelude.{◌<◌, ◌≤◌};
+
+use super::*;
+use memory::OutOfMemory;
+use raft_vote::RaftEntry;
+use region_map::{NodeId, NodeSet};
+use std::alloc::Global;
+use std::test::Fail;
+
+/// A change that sets a number.
+#[derive(Clone, Copy, Debug, PartialEq, Eq)]
+struct Set(u64);
+
+impl RaftEntry for Set {
+    ghost use Rattle.raft_laws.specs.declared.tests.Set.{Set};
+
+    ghost noop_entry = { record { 0 = 0 } };
+
+    fn noop() -> Self {
+        Set(0)
+    }
+
+    fn copy(&self, _alloc: Global) -> Result<Self, OutOfMemory> {
+        Ok(*self)
+    }
+}
+
+/// An event of a table of tests.
+#[derive(Clone, Copy, Debug)]
+enum Step {
+    Tick,
+    Propose,
+    Deliver(u64),
+    Crash,
+    Restart,
+}
+
+fn event(step: Step) -> RaftEvent<Set> {
+    match step {
+        Step::Tick => RaftEvent::Tick {
+            unseen: NodeSet::empty().with(NodeId(0)),
+        },
+        Step::Propose => RaftEvent::Propose(Set(7)),
+        Step::Deliver(number) => RaftEvent::Deliver(number),
+        Step::Crash => RaftEvent::Crash,
+        Step::Restart => RaftEvent::Restart,
+    }
+}
+
+/// Whether the event at the node is answered so, and leaves it with so many committed entries.
+fn goes(
+    alloc: Global,
+    world: &mut RaftWorld<Set>,
+    at: u8,
+    step: Step,
+    answer: Result<(), RaftPushRefused>,
+    committed: usize,
+) -> bool
+    requires { at < world.old.nodes }
+{
+    let node = NodeId(at);
+    let given = world.push(alloc, node, event(step));
+    if at >= world.nodes() {
+        return false;
+    }
+    given == answer && world.committed(node).len() == committed
+}
+
+#[test]
+fn one_node_commits_alone(rt: HostRuntime) -> Result<(), Fail> {
+    let alloc = rt.alloc();
+    let rows = [
+        (Step::Deliver(1), Err(RaftPushRefused::NoSuchMessage), 0),
+        (Step::Propose, Ok(()), 0),
+        (Step::Tick, Ok(()), 1),
+        (Step::Propose, Ok(()), 2),
+        (Step::Restart, Ok(()), 2),
+        (Step::Crash, Ok(()), 2),
+        (Step::Tick, Err(RaftPushRefused::Down), 2),
+        (Step::Deliver(0), Err(RaftPushRefused::NoSuchMessage), 2),
+        (Step::Restart, Ok(()), 2),
+        (Step::Tick, Ok(()), 3),
+    ];
+    let mut world = RaftWorld::begin(alloc, 1)?;
+    for (step, answer, committed) in rows {
+        assert!(rt; world.nodes() == 1);
+        assert!(rt; goes(alloc, &mut world, 0, step, answer, committed));
+    }
+    Ok(())
+}
+
+/// Node 0 leads and commits an entry, and fails; node 1 leads then, and old messages come late.
+#[test]
+fn late_messages_change_nothing(rt: HostRuntime) -> Result<(), Fail> {
+    let alloc = rt.alloc();
+    let rows = [
+        (0, Step::Tick, 0),
+        (1, Step::Deliver(1), 0),
+        (0, Step::Deliver(3), 0),
+        (1, Step::Deliver(4), 0),
+        (0, Step::Deliver(6), 1),
+        (0, Step::Crash, 1),
+        (1, Step::Tick, 0),
+        (2, Step::Deliver(8), 0),
+        (1, Step::Deliver(9), 0),
+        (2, Step::Deliver(11), 0),
+        (1, Step::Deliver(12), 2),
+        (2, Step::Deliver(5), 0),
+        (1, Step::Deliver(4), 2),
+        (1, Step::Tick, 2),
+        (2, Step::Deliver(16), 2),
+    ];
+    let mut world = RaftWorld::begin(alloc, 3)?;
+    for (at, step, committed) in rows {
+        assert!(rt; world.nodes() == 3 && at < 3);
+        assert!(rt; goes(alloc, &mut world, at, step, Ok(()), committed));
+    }
+    Ok(())
+}
