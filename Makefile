@@ -1,0 +1,17 @@
+# make play SCRIPT=examples/first-write.jsonl   plays a script and prints its report
+# make test                                     the gate: every proof, must-fail edit, test and program, and the examples
+# make bench                                    what an event costs as the journal grows
+
+SCRIPT ?= examples/first-write.jsonl
+PROGRAM := crates/table_play/out/bin/table_play
+
+.PHONY: play test bench
+
+play:
+	@tools/play $(SCRIPT)
+
+test:
+	@.ci/run
+
+bench:
+	@tools/bench
