@@ -102,7 +102,7 @@ abbrev pub IsPlay : List (List ℕ) → Status → JournalState → Option (List
 IsPlay words result journal left left' faults faults' held held' writes writes' =
     ((is_command words ≡ false) × (left' ≡ left) × Ends outcome_of_words result journal held held' writes writes')
     ⊎ (((is_command words ≡ true) × ((r : Reading) × IsReading r left left' faults faults' × Ends (outcome_of r) result journal held held' writes writes'))
-       ⊎ Wants result journal held held')
+    ⊎ Wants result journal held held')
 
 -- the setup of a journal, where it has one, makes its entries a run
 abbrev pub IsRunFrom : Option SetupState → List Entry → Type 0

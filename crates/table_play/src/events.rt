@@ -51,7 +51,7 @@ fn deliver(
     requires { world.old.ended ≡ None }
     ensures ok { IfOk result (λ met. played_at world.new refused.new.items met
         ≡ play_delivery world.old.setup (played_at world.old refused.old.items false) line message
-            (message_at world.old.past message)) }
+        (message_at world.old.past message)) }
     ensures on { IfOk result (λ met. met ≡ false → world.new.ended ≡ None) }
     ensures setup { world.new.setup ≡ world.old.setup }
     ensures err { OnErr result (world.new.past ≡ world.old.past) }
@@ -121,7 +121,7 @@ pub fn play_items(
     ensures setup { world.new.setup ≡ world.old.setup }
     ensures err { OnErr result ((later : List Entry)
         × ((play_items world.old.setup (played_at world.old refused.old.items false) items.now).past
-            ≡ later ++ world.new.past)) }
+        ≡ later ++ world.new.past)) }
 {
     for item in items {
         if play_word(alloc, world, item, refused)? {

@@ -10,9 +10,9 @@ use line_io::{StdSink, StdSource};
 use memory::OutOfMemory;
 use node_core::Journal;
 use script_text::Status;
-use std::io;
+use std::alloc::Global;
 use std::process::ExitCode;
-use std::{alloc::Global, env};
+use std::{env, io};
 
 pub mod events;
 pub mod play;

@@ -46,7 +46,7 @@ fn print<K: Sink>(
     sink: &mut K,
 ) -> Status
     ensures { Says (status_of met) (joined (report script.now.setup script.now.items journal.now.past refused.now (ending_of met)))
-            result (K.held sink.old) (K.held sink.new) (K.faults sink.old) (K.faults sink.new)
+        result (K.held sink.old) (K.held sink.new) (K.faults sink.old) (K.faults sink.new)
         ⊎ WantsUnsaid result (K.held sink.old) (K.held sink.new) }
 {
     let ending = if met {
@@ -106,12 +106,7 @@ fn play_script<K: Sink>(
 }
 
 /// Plays the script of a text, or says which line is refused.
-fn play_text<K: Sink>(
-    alloc: Global,
-    text: &[u8],
-    sink: &mut K,
-    journal: &mut Journal,
-) -> Status
+fn play_text<K: Sink>(alloc: Global, text: &[u8], sink: &mut K, journal: &mut Journal) -> Status
     requires { journal.old ≡ empty_journal }
     ensures ends { Ends (outcome_of_script (read_lines text.now)) result journal.new (K.held sink.old) (K.held sink.new) (K.faults sink.old) (K.faults sink.new)
         ⊎ Wants result journal.new (K.held sink.old) (K.held sink.new) }
@@ -127,10 +122,8 @@ fn play_text<K: Sink>(
     }
 }
 
-/// Plays the script that the source gives, and prints its report; `journal` is then the journal of this call.
-///
-/// The words are `play` alone. The status tells how it ended: with the whole report, or why not.
-pub fn play<S: Source, K: Sink>(
+/// What the words ask, without what the laws of runs say of the journal.
+fn play_words<S: Source, K: Sink>(
     alloc: Global,
     words: &[&str],
     source: &mut S,
@@ -141,7 +134,6 @@ pub fn play<S: Source, K: Sink>(
     ensures play { IsPlay (map (λ w. w.now) words.now) result journal.new (S.left source.old) (S.left source.new)
         (S.faults source.old) (S.faults source.new) (K.held sink.old) (K.held sink.new) (K.faults sink.old) (K.faults sink.new) }
     ensures run { IsRunJournal journal.new }
-    ensures stories { (key : List ℕ) → IsRegisterStory journal.new.past key (story journal.new.past key) }
 {
     if !is_command(words) {
         return say(sink, usage_line().as_bytes(), Status::Usage);
@@ -166,4 +158,23 @@ pub fn play<S: Source, K: Sink>(
         Err(ReadRefused::OutOfMemory) => Status::OutOfMemory,
         Ok(text) => play_text(alloc, text.as_slice(), sink, journal),
     }
+}
+
+/// Plays the script that the source gives, and prints its report; `journal` is then the journal of this call.
+///
+/// The words are `play` alone. The status tells how it ended: with the whole report, or why not.
+pub fn play<S: Source, K: Sink>(
+    alloc: Global,
+    words: &[&str],
+    source: &mut S,
+    sink: &mut K,
+    journal: &mut Journal,
+) -> Status
+    requires { journal.old ≡ empty_journal }
+    ensures play { IsPlay (map (λ w. w.now) words.now) result journal.new (S.left source.old) (S.left source.new)
+        (S.faults source.old) (S.faults source.new) (K.held sink.old) (K.held sink.new) (K.faults sink.old) (K.faults sink.new) }
+    ensures run { IsRunJournal journal.new }
+    ensures stories { (key : List ℕ) → IsRegisterStory journal.new.past key (story journal.new.past key) }
+{
+    play_words(alloc, words, source, sink, journal)
 }

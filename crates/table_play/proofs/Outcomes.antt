@@ -1,0 +1,43 @@
+-- Joining what was played with what was printed, and what the laws of runs say of a journal.
+use Rattle.std.proofs.Common.{◌≡◌, ℕ, Bool, List, [], ◌∷◌, ◌++◌, Option, Some, None, refl, sym, ap, ◌∙◌, subst, ◌⊎◌, inl, inr}
+use Rattle.contract_types.specs.Setup.{SetupState}
+use Rattle.node_core.specs.declared.journal.Entry.{Entry}
+use Rattle.node_core.specs.Journal.{JournalState}
+use Rattle.script_text.specs.declared.status.Status.{Status}
+use Rattle.script_text.specs.Script.{ScriptState}
+use Rattle.report_text.specs.declared.ending.Refusal.{Refusal}
+use Rattle.report_text.specs.Report.{report, joined}
+use Rattle.world_core.specs.Run.{IsRun}
+use Rattle.world_core.specs.Story.{IsRegisterStory, story}
+use Rattle.world_core.proofs.Runs.{run_story}
+use Rattle.table_play.specs.Play.{Played, play_journal, ending_of}
+use Rattle.table_play.specs.Steps.{played_by}
+use Rattle.table_play.specs.Headline.{Ends, Wants, WantsUnsaid, Says, plays, status_of, IsRunFrom, IsRunJournal}
+
+-- the journal of a script that was played to its end, or to a limit
+abbrev pub journal_of : ScriptState → List Entry → JournalState
+journal_of script past = record { setup = Some script.setup; past = past }
+
+-- what was printed of what was played
+abbrev pub Printed : ScriptState → Played → Status → Option (List ℕ) → Option (List ℕ) → ℕ → ℕ → Type 0
+Printed script p result h h' f f' =
+    Says (status_of p.met) (joined (report script.setup script.items p.past p.refused (ending_of p.met))) result h h' f f'
+    ⊎ WantsUnsaid result h h'
+
+pub script_ends : (script : ScriptState) (past : List Entry) (refused : List Refusal) (met : Bool) (result : Status) (h h' : Option (List ℕ)) (f f' : ℕ)
+    → played_by past refused met ≡ play_journal script.setup script.items → Printed script (played_by past refused met) result h h' f f'
+    → Ends (plays script) result (journal_of script past) h h' f f' ⊎ Wants result (journal_of script past) h h'
+script_ends script past refused met result h h' f f' e printed =
+    elim (subst (λ (p : Played). Printed script p result h h' f f') e printed) [
+      | inl says' ↦ inl (record { journal_is = λ i. record { setup = Some script.setup; past = (e i).past }; says = says' })
+      | inr wants ↦ inr (record { status_is = wants.0; nothing_written = wants.1; played = inr (script, (refl, ([], sym (ap (λ (p : Played). p.past) e)))) })
+    ]
+
+run_from_story : (setup : Option SetupState) (past : List Entry) → IsRunFrom setup past → (key : List ℕ) → IsRegisterStory past key (story past key)
+run_from_story None past h key =
+    subst (λ (p : List Entry). IsRegisterStory p key (story p key)) (sym h) (run_story (record { nodes = 1; hashes = 1 }) [] tt key)
+run_from_story (Some setup) past h key = run_story setup past h key
+
+-- each key's story in a journal that is a run
+pub journal_story : (journal : JournalState) → IsRunJournal journal → (key : List ℕ) → IsRegisterStory journal.past key (story journal.past key)
+journal_story journal h key = run_from_story journal.setup journal.past h key
