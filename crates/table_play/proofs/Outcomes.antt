@@ -41,3 +41,7 @@ run_from_story (Some setup) past h key = run_story setup past h key
 -- each key's story in a journal that is a run
 pub journal_story : (journal : JournalState) → IsRunJournal journal → (key : List ℕ) → IsRegisterStory journal.past key (story journal.past key)
 journal_story journal h key = run_from_story journal.setup journal.past h key
+
+-- the entries of a journal that is one of a setup are a run
+pub journal_run : (journal : JournalState) → IsRunJournal journal → (setup : SetupState) → journal.setup ≡ Some setup → IsRun setup journal.past
+journal_run journal h setup e = subst (λ (o : Option SetupState). IsRunFrom o journal.past) e h

@@ -17,6 +17,8 @@ use std::{env, io};
 pub mod events;
 pub mod play;
 pub mod saying;
+#[cfg(test)]
+mod tests;
 
 /// The words after the program's own name.
 fn words(rt: &HostRuntime) -> io::Result<Vec<String>> {

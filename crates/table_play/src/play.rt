@@ -1,9 +1,13 @@
 //! The top call.
-ghost use Rattle.std.specs.Prelude.{◌≡◌, ◌⊎◌, ℕ, List, map};
+ghost use Rattle.std.specs.Prelude.{◌≡◌, ◌⊎◌, ℕ, List, Some, map};
 ghost use Rattle.node_core.specs.Journal.{empty_journal};
 ghost use Rattle.script_text.specs.Lines.{read_lines};
 ghost use Rattle.report_text.specs.Report.{report, joined};
-ghost use Rattle.world_core.specs.Story.{IsRegisterStory, story};
+ghost use Rattle.world_core.specs.Served.{IsNotServed};
+ghost use Rattle.world_core.specs.Story.{IsRegisterStory, answer, story};
+ghost use Rattle.contract_types.specs.Setup.{SetupState};
+ghost use Rattle.register_laws.specs.declared.operation.OpId.{OpId};
+ghost use Rattle.exec_types.specs.declared.outcome.Outcome.TheVariants.{NotServing};
 ghost use Rattle.table_play.specs.Play.{ending_of};
 ghost use Rattle.table_play.specs.Headline.{is_command, IsPlay, IsRunJournal, Ends, Wants, WantsUnsaid, Says, outcome_of_script, plays, status_of};
 
@@ -175,6 +179,10 @@ pub fn play<S: Source, K: Sink>(
         (S.faults source.old) (S.faults source.new) (K.held sink.old) (K.held sink.new) (K.faults sink.old) (K.faults sink.new) }
     ensures run { IsRunJournal journal.new }
     ensures stories { (key : List ℕ) → IsRegisterStory journal.new.past key (story journal.new.past key) }
+    ensures not_serving_only { (setup : SetupState) (op : OpId) → journal.new.setup ≡ Some setup
+        → answer journal.new.past op ≡ Some NotServing → IsNotServed setup journal.new.past op }
+    ensures not_serving_always { (setup : SetupState) (op : OpId) → journal.new.setup ≡ Some setup
+        → IsNotServed setup journal.new.past op → answer journal.new.past op ≡ Some NotServing }
 {
     play_words(alloc, words, source, sink, journal)
 }

@@ -1,6 +1,7 @@
 pub mod Facts
 pub mod Orders
 pub mod Outs
+pub mod Refusals
 pub mod RegisterStory
 pub mod Runs
 pub mod States

@@ -5,7 +5,7 @@
 #![tactic(auto)]
 
 pub use envelope::Envelope;
-pub use laws::{answers_of_runs, stories_of_runs};
+pub use laws::{answers_of_runs, refusals_of_runs, stories_of_runs};
 pub use push_refused::PushRefused;
 pub use world::World;
 
