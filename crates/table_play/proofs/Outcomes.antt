@@ -1,10 +1,11 @@
 -- Joining what was played with what was printed, and what the laws of runs say of a journal.
-use Rattle.std.proofs.Common.{◌≡◌, ℕ, Bool, List, [], ◌∷◌, ◌++◌, Option, Some, None, refl, sym, ap, ◌∙◌, subst, ◌⊎◌, inl, inr}
+use Rattle.std.proofs.Common.{◌≡◌, ℕ, Bool, List, [], Option, Some, None, refl, sym, ap, subst, ◌⊎◌, inl, inr}
 use Rattle.contract_types.specs.Setup.{SetupState}
 use Rattle.node_core.specs.declared.journal.Entry.{Entry}
 use Rattle.node_core.specs.Journal.{JournalState}
 use Rattle.script_text.specs.declared.status.Status.{Status}
 use Rattle.script_text.specs.Script.{ScriptState}
+use Rattle.script_text.specs.Lines.{Accepted}
 use Rattle.report_text.specs.declared.ending.Refusal.{Refusal}
 use Rattle.report_text.specs.Report.{report, joined}
 use Rattle.world_core.specs.Run.{IsRun}
@@ -26,11 +27,11 @@ Printed script p result h h' f f' =
 
 pub script_ends : (script : ScriptState) (past : List Entry) (refused : List Refusal) (met : Bool) (result : Status) (h h' : Option (List ℕ)) (f f' : ℕ)
     → played_by past refused met ≡ play_journal script.setup script.items → Printed script (played_by past refused met) result h h' f f'
-    → Ends (plays script) result (journal_of script past) h h' f f' ⊎ Wants result (journal_of script past) h h'
+    → Ends (plays script) result (journal_of script past) h h' f f' ⊎ Wants (Accepted script) result (journal_of script past) h h'
 script_ends script past refused met result h h' f f' e printed =
     elim (subst (λ (p : Played). Printed script p result h h' f f') e printed) [
       | inl says' ↦ inl (record { journal_is = λ i. record { setup = Some script.setup; past = (e i).past }; says = says' })
-      | inr wants ↦ inr (record { status_is = wants.0; nothing_written = wants.1; played = inr (script, (refl, ([], sym (ap (λ (p : Played). p.past) e)))) })
+      | inr wants ↦ inr (record { status_is = wants.0; nothing_written = wants.1; played = inr (script, refl, (refl, ([], sym (ap (λ (p : Played). p.past) e)))) })
     ]
 
 run_from_story : (setup : Option SetupState) (past : List Entry) → IsRunFrom setup past → (key : List ℕ) → IsRegisterStory past key (story past key)

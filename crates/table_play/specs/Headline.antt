@@ -13,7 +13,7 @@ use Rattle.script_text.specs.declared.status.Reason.TheVariants.{NotBuilt}
 use Rattle.script_text.specs.Script.{ScriptState}
 use Rattle.script_text.specs.Lines.{ScriptRead, Accepted, Refused, read_lines}
 use Rattle.report_text.specs.Report.{report, joined, usage_line, read_fault_line, script_line, limit_line}
-use Rattle.table_play.specs.Play.{Played, play_journal, ending_of, greatest_number}
+use Rattle.table_play.specs.Play.{play_journal, ending_of, greatest_number}
 
 -- the one command
 abbrev pub is_command : List (List ℕ) → Bool
@@ -91,18 +91,31 @@ WantsUnsaid result held held' = (result ≡ status.OutOfMemory) × (held' ≡ he
 abbrev pub IsPartOf : JournalState → ScriptState → Type 0
 IsPartOf journal script = (journal.setup ≡ Some script.setup) × ((later : List Entry) × ((play_journal script.setup script.items).past ≡ later ++ journal.past))
 
--- a call that wanted memory: nothing was written, and nothing played or a part of the script
-pub record Wants (result : Status) (journal : JournalState) (held held' : Option (List ℕ)) : Type 0 where
+-- a call that wanted memory once the script was read: nothing was written, and nothing played or a part of that script
+pub record Wants (said : ScriptRead) (result : Status) (journal : JournalState) (held held' : Option (List ℕ)) : Type 0 where
   pub status_is : result ≡ status.OutOfMemory
   pub nothing_written : held' ≡ held
-  pub played : (journal ≡ empty_journal) ⊎ ((script : ScriptState) × IsPartOf journal script)
+  pub played : (journal ≡ empty_journal) ⊎ ((script : ScriptState) × (said ≡ Accepted script) × IsPartOf journal script)
 
--- the words are no command, and nothing was read; or they are, and the outcome is that of what was read; or memory was wanted
+-- the same, of what came of reading
+abbrev pub WantsOf : Reading → Status → JournalState → Option (List ℕ) → Option (List ℕ) → Type 0
+WantsOf (Came text) result journal held held' = Wants (read_lines text) result journal held held'
+WantsOf Faulted result journal held held' = ⊥
+WantsOf Exceeded result journal held held' = ⊥
+
+-- a call that wanted memory before anything was played
+pub record WantsFirst (result : Status) (journal : JournalState) (held held' : Option (List ℕ)) : Type 0 where
+  pub status_is : result ≡ status.OutOfMemory
+  pub nothing_written : held' ≡ held
+  pub nothing_played : journal ≡ empty_journal
+
+-- the words are no command, and nothing was read; or they are, and the outcome is that of what was read, or memory was
+-- wanted on the way; or memory was wanted before
 abbrev pub IsPlay : List (List ℕ) → Status → JournalState → Option (List ℕ) → Option (List ℕ) → ℕ → ℕ → Option (List ℕ) → Option (List ℕ) → ℕ → ℕ → Type 0
 IsPlay words result journal left left' faults faults' held held' writes writes' =
     ((is_command words ≡ false) × (left' ≡ left) × Ends outcome_of_words result journal held held' writes writes')
-    ⊎ (((is_command words ≡ true) × ((r : Reading) × IsReading r left left' faults faults' × Ends (outcome_of r) result journal held held' writes writes'))
-    ⊎ Wants result journal held held')
+    ⊎ (((is_command words ≡ true) × ((r : Reading) × IsReading r left left' faults faults' × (Ends (outcome_of r) result journal held held' writes writes' ⊎ WantsOf r result journal held held')))
+    ⊎ ((is_command words ≡ true) × WantsFirst result journal held held'))
 
 -- the setup of a journal, where it has one, makes its entries a run
 abbrev pub IsRunFrom : Option SetupState → List Entry → Type 0

@@ -1,7 +1,7 @@
 //! The top call.
 ghost use Rattle.std.specs.Prelude.{◌≡◌, ◌⊎◌, ℕ, List, Some, map};
 ghost use Rattle.node_core.specs.Journal.{empty_journal};
-ghost use Rattle.script_text.specs.Lines.{read_lines};
+ghost use Rattle.script_text.specs.Lines.{Accepted, read_lines};
 ghost use Rattle.report_text.specs.Report.{report, joined};
 ghost use Rattle.world_core.specs.Served.{IsNotServed};
 ghost use Rattle.world_core.specs.Story.{IsRegisterStory, answer, story};
@@ -94,7 +94,7 @@ fn play_script<K: Sink>(
 ) -> Status
     requires { journal.old ≡ empty_journal }
     ensures ends { Ends (plays script.now) result journal.new (K.held sink.old) (K.held sink.new) (K.faults sink.old) (K.faults sink.new)
-        ⊎ Wants result journal.new (K.held sink.old) (K.held sink.new) }
+        ⊎ Wants (Accepted script.now) result journal.new (K.held sink.old) (K.held sink.new) }
     ensures run { IsRunJournal journal.new }
 {
     let Ok(mut world) = World::begin(alloc, script.setup()) else {
@@ -113,7 +113,7 @@ fn play_script<K: Sink>(
 fn play_text<K: Sink>(alloc: Global, text: &[u8], sink: &mut K, journal: &mut Journal) -> Status
     requires { journal.old ≡ empty_journal }
     ensures ends { Ends (outcome_of_script (read_lines text.now)) result journal.new (K.held sink.old) (K.held sink.new) (K.faults sink.old) (K.faults sink.new)
-        ⊎ Wants result journal.new (K.held sink.old) (K.held sink.new) }
+        ⊎ Wants (read_lines text.now) result journal.new (K.held sink.old) (K.held sink.new) }
     ensures run { IsRunJournal journal.new }
 {
     match read_script(alloc, text) {

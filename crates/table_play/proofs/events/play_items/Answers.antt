@@ -1,7 +1,7 @@
-use Rattle.std.proofs.Common.{◌≡◌, ◌++◌, List, false, sym, ap, ◌∙◌, drop}
+use Rattle.std.proofs.Common.{◌++◌, List, false, sym, ap, ◌∙◌, drop}
 use Rattle.std.proofs.lemmas.Result.{err_from_is_err_and}
 use Rattle.node_core.specs.declared.journal.Entry.{Entry}
-use Rattle.table_play.specs.Play.{Played, play_items}
+use Rattle.table_play.specs.Play.{Played}
 use Rattle.table_play.specs.Steps.{played_at}
 use Rattle.table_play.proofs.Grows.{play_adds}
 use Rattle.table_play.proofs.events.play_items.Goals as goal

@@ -2,6 +2,7 @@ use Rattle.std.proofs.Common.{◌≡◌, ◌⊎◌, List, [], Some, None, false,
 use Rattle.contract_types.specs.Setup.{SetupState}
 use Rattle.node_core.specs.Journal.{JournalState}
 use Rattle.world_core.specs.World.{WorldState}
+use Rattle.script_text.specs.Lines.{Accepted}
 use Rattle.report_text.specs.declared.ending.Refusal.{Refusal}
 use Rattle.table_play.specs.Play.{play_items, play_journal}
 use Rattle.table_play.specs.Steps.{played_at, played_by}
@@ -25,5 +26,5 @@ returns-clause-ends g c =
     let printed : Printed script (played_by after.past refused met) c.print.result (g.K.Sink.held c.args.sink.now) (g.K.Sink.held c.print.new.sink) (g.K.Sink.faults c.args.sink.now) (g.K.Sink.faults c.print.new.sink) =
     subst (λ (j : JournalState). Printed script (played_by j.past refused met) c.print.result (g.K.Sink.held c.args.sink.now) (g.K.Sink.held c.print.new.sink) (g.K.Sink.faults c.args.sink.now) (g.K.Sink.faults c.print.new.sink)) journal
     (subst (λ (l : List Refusal). Printed script (played_by c.into_journal.result.past l met) c.print.result (g.K.Sink.held c.args.sink.now) (g.K.Sink.held c.print.new.sink) (g.K.Sink.faults c.args.sink.now) (g.K.Sink.faults c.print.new.sink)) c.deref.ensures.value c.print.ensures) in
-    subst (λ (j : JournalState). Ends (plays script) c.print.result j (g.K.Sink.held c.args.sink.now) (g.K.Sink.held c.print.new.sink) (g.K.Sink.faults c.args.sink.now) (g.K.Sink.faults c.print.new.sink) ⊎ Wants c.print.result j (g.K.Sink.held c.args.sink.now) (g.K.Sink.held c.print.new.sink)) (sym journal)
+    subst (λ (j : JournalState). Ends (plays script) c.print.result j (g.K.Sink.held c.args.sink.now) (g.K.Sink.held c.print.new.sink) (g.K.Sink.faults c.args.sink.now) (g.K.Sink.faults c.print.new.sink) ⊎ Wants (Accepted script) c.print.result j (g.K.Sink.held c.args.sink.now) (g.K.Sink.held c.print.new.sink)) (sym journal)
     (script_ends script after.past refused met c.print.result (g.K.Sink.held c.args.sink.now) (g.K.Sink.held c.print.new.sink) (g.K.Sink.faults c.args.sink.now) (g.K.Sink.faults c.print.new.sink) played printed)

@@ -1,5 +1,5 @@
-use Rattle.std.proofs.Common.{◌≡◌, ◌⊎◌, List, ℕ, true, map, sym, ap, ◌∙◌, subst, inl, inr}
-use Rattle.table_play.specs.Headline.{IsReading, Reading, Came, Ends, Wants, outcome_of, is_command}
+use Rattle.std.proofs.Common.{◌≡◌, ◌⊎◌, List, ℕ, true, map, sym, ◌∙◌, subst, inl, inr}
+use Rattle.table_play.specs.Headline.{IsReading, Came, Ends, WantsOf, outcome_of, is_command}
 use Rattle.table_play.proofs.play.play_words.Goals as goal
 
 pub returns-in-Ok-clause-play : goal.returns-in-Ok-clause-play
@@ -11,10 +11,7 @@ returns-in-Ok-clause-play g c =
     let command : is_command (map (λ w. w.now) c.args.words.now) ≡ true = sym c.is_command.ensures ∙ c.if-not-is_command.false in
     let reading : IsReading (Came c.in-Ok.text.items) (g.S.Source.left c.args.source.now) (g.S.Source.left c.read_all.new.source) (g.S.Source.faults c.args.source.now) (g.S.Source.faults c.read_all.new.source) =
     (c.in-Ok.ensures.gives, c.in-Ok.ensures.end, c.in-Ok.ensures.within) in
-    let ends : Ends (outcome_of (Came c.in-Ok.text.items)) c.play_text.result c.play_text.new.journal held held' writes writes' ⊎ Wants c.play_text.result c.play_text.new.journal held held' =
-    subst (λ (t : List ℕ). Ends (outcome_of (Came t)) c.play_text.result c.play_text.new.journal held held' writes writes' ⊎ Wants c.play_text.result c.play_text.new.journal held held')
+    let ends : Ends (outcome_of (Came c.in-Ok.text.items)) c.play_text.result c.play_text.new.journal held held' writes writes' ⊎ WantsOf (Came c.in-Ok.text.items) c.play_text.result c.play_text.new.journal held held' =
+    subst (λ (t : List ℕ). Ends (outcome_of (Came t)) c.play_text.result c.play_text.new.journal held held' writes writes' ⊎ WantsOf (Came t) c.play_text.result c.play_text.new.journal held held')
     c.as_slice.ensures.value c.play_text.ensures.ends in
-    elim ends [
-      | inl e ↦ inr (inl (command, (Came c.in-Ok.text.items, reading, e)))
-      | inr w ↦ inr (inr w)
-    ]
+    inr (inl (command, (Came c.in-Ok.text.items, reading, ends)))
