@@ -58,6 +58,17 @@ fn plays_worked_scripts(rt: HostRuntime) -> Result<(), Fail> {
         &rt,
         outcome(
             alloc,
+            b"{\"do\":\"put\",\"op\":1,\"node\":0,\"key\":\"a\",\"value\":\"x\"}\n",
+            0,
+            0,
+        ),
+        b"table nodes 1 hash 8 shards 1\nop 1 done none 0.1.0:1\nstory \"a\" 1\nend\n",
+        0,
+    )?;
+    expect(
+        &rt,
+        outcome(
+            alloc,
             b"{\"do\":\"setup\",\"nodes\":3}\n{\"do\":\"put\",\"op\":1,\"node\":1,\"key\":\"a\",\"value\":\"x\"}",
             0,
             0,
