@@ -6,7 +6,7 @@ use Rattle.serde_json.specs.Data.{Data}
 use Rattle.contract_types.specs.Setup.{SetupState}
 use Rattle.script_text.specs.declared.script.ScriptWord.{ScriptWord}
 use Rattle.script_text.specs.declared.script.ScriptItem.{ScriptItem}
-use Rattle.script_text.specs.Script.{ScriptState, is_built, is_again}
+use Rattle.script_text.specs.Script.{ScriptState, is_again}
 use Rattle.script_text.specs.declared.script.ScriptWord.TheVariants.{Request, GiveUp, Deliver, Lose, Flush}
 use Rattle.register_laws.specs.declared.operation.OpId.{OpId}
 use Rattle.register_laws.specs.declared.operation.Op.{Op}
@@ -152,19 +152,17 @@ setup-sound r s line h is =
     (λ (c : (r.begun ≡ false) × (option_map (λ setup. record r { begun = true; setup = setup }) (setup_of line) ≡ Some s)).
     let m = map_is (λ (setup : SetupState). record r { begun = true; setup = setup }) (setup_of line) s c.1 in
     let none = h.empty c.0 in
-    subst IsSoundSoFar m.1 (record { sound = record { built = all-none (λ i. is_built i.word) r.items none; fits = all-none (λ i. fits_table m.0 i.word) r.items none; new = subst (λ items. are_new [] items ≡ true) (sym none) refl }; empty = λ e. cc }))
+    subst IsSoundSoFar m.1 (record { sound = record { fits = all-none (λ i. fits_table m.0 i.word) r.items none; new = subst (λ items. are_new [] items ≡ true) (sym none) refl }; empty = λ e. cc }))
     (if_is r.begun None (option_map (λ (setup : SetupState). record r { begun = true; setup = setup }) (setup_of line)) s is)
 
 word-sound : (r s : Reading) (number : ℕ) (word : ScriptWord) → IsSoundSoFar r → fits_table r.setup word ≡ true → take_word r number word ≡ Some s → IsSoundSoFar s
 word-sound r s number word h fits is =
     let item : ScriptItem = record { line = number; word = word } in
-    let k = kept_is (is_built word && not (is_again word r.items)) (record r { begun = true; items = r.items ++ item ∷ [] }) s is in
-    let tests = both (is_built word) (not (is_again word r.items)) k.0 in
+    let k = kept_is (not (is_again word r.items)) (record r { begun = true; items = r.items ++ item ∷ [] }) s is in
     subst IsSoundSoFar k.1 (record {
       sound = record {
-        built = all-push (λ i. is_built i.word) r.items item h.sound.built tests.0;
         fits = all-push (λ i. fits_table r.setup i.word) r.items item h.sound.fits fits;
-        new = are_new-push [] r.items item h.sound.new tests.1;
+        new = are_new-push [] r.items item h.sound.new k.0;
       };
       empty = λ e. cc;
     })
@@ -205,4 +203,4 @@ from-sound (l ∷ ls) number r script h is =
 -- every accepted script is sound
 pub accepted_sound : (text : List ℕ) (script : ScriptState) → read_lines text ≡ Accepted script → IsSound script
 accepted_sound text script is =
-    from-sound (lines text) 1 at_first script (record { sound = record { built = refl; fits = refl; new = refl }; empty = λ e. refl }) is
+    from-sound (lines text) 1 at_first script (record { sound = record { fits = refl; new = refl }; empty = λ e. refl }) is

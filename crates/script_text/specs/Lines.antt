@@ -1,5 +1,5 @@
 -- The lines of a script, and what a script says.
-use Rattle.std.specs.Prelude.{ℕ, ◌+◌, ◌==◌, Bool, true, false, not, ◌&&◌, ◌||◌, bytes_eq, codes, List, [], ◌∷◌, ◌++◌, Option, Some, None, option_map, option_and_then, if◌then◌else◌}
+use Rattle.std.specs.Prelude.{ℕ, ◌+◌, ◌==◌, Bool, true, false, not, ◌||◌, bytes_eq, codes, List, [], ◌∷◌, ◌++◌, Option, Some, None, option_map, option_and_then, if◌then◌else◌}
 use Rattle.std.specs.List.{list_all}
 use Rattle.std.specs.Str.{is_utf8}
 use Rattle.serde_json.specs.Data.{Data}
@@ -7,7 +7,7 @@ use Rattle.serde_json.specs.Read.{read}
 use Rattle.contract_types.specs.Setup.{SetupState}
 use Rattle.script_text.specs.declared.script.ScriptWord.{ScriptWord}
 use Rattle.script_text.specs.declared.script.ScriptItem.{ScriptItem}
-use Rattle.script_text.specs.Script.{ScriptState, is_built, is_again}
+use Rattle.script_text.specs.Script.{ScriptState, is_again}
 use Rattle.script_text.specs.Grammar.{text_in, setup_of, word_named}
 
 -- this byte, and then the lines
@@ -50,10 +50,10 @@ at_first = record { begun = false; setup = record { nodes = 1; hashes = 8 }; ite
 abbrev pub take_setup : Reading → Data → Option Reading
 take_setup r line = if r.begun then None else option_map (λ setup. record r { begun = true; setup = setup }) (setup_of line)
 
--- a word of the programs that are built, with no operation's number again
+-- a word, with no operation's number again
 abbrev pub take_word : Reading → ℕ → ScriptWord → Option Reading
 take_word r number word =
-    if is_built word && not (is_again word r.items) then Some (record r { begun = true; items = r.items ++ record { line = number; word = word } ∷ [] }) else None
+    if not (is_again word r.items) then Some (record r { begun = true; items = r.items ++ record { line = number; word = word } ∷ [] }) else None
 
 abbrev pub take_named : Reading → ℕ → List ℕ → Data → Option Reading
 take_named r number name line =

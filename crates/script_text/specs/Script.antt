@@ -1,8 +1,6 @@
 -- What a script asks.
-use Rattle.std.specs.Prelude.{ℕ, Bool, true, false, ◌==◌, List}
+use Rattle.std.specs.Prelude.{ℕ, Bool, false, ◌==◌, List}
 use Rattle.std.specs.List.{list_any}
-use Rattle.register_laws.specs.declared.operation.Op.{Op}
-use Rattle.register_laws.specs.declared.operation.Op.TheVariants.{Put, Delete, Cas, Read}
 use Rattle.contract_types.specs.Setup.{SetupState}
 use Rattle.script_text.specs.declared.script.ScriptWord.{ScriptWord}
 use Rattle.script_text.specs.declared.script.ScriptWord.TheVariants.{Request, GiveUp, Deliver, Lose, Flush}
@@ -12,20 +10,6 @@ use Rattle.script_text.specs.declared.script.ScriptItem.{ScriptItem}
 pub record ScriptState : Type 0 where
   pub setup : SetupState
   pub items : List ScriptItem
-
-abbrev pub is_put : Op → Bool
-is_put (Put value) = true
-is_put Delete = false
-is_put (Cas expect put) = false
-is_put Read = false
-
--- the programs play this word; every other word is refused
-abbrev pub is_built : ScriptWord → Bool
-is_built (Request op node key what) = is_put what
-is_built (GiveUp node op) = false
-is_built (Deliver message) = true
-is_built (Lose message) = false
-is_built Flush = false
 
 -- this word gives this number to an operation
 abbrev pub requests : ℕ → ScriptWord → Bool

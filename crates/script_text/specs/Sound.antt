@@ -5,7 +5,7 @@ use Rattle.contract_types.specs.Setup.{SetupState}
 use Rattle.script_text.specs.declared.script.ScriptWord.{ScriptWord}
 use Rattle.script_text.specs.declared.script.ScriptWord.TheVariants.{Request, GiveUp, Deliver, Lose, Flush}
 use Rattle.script_text.specs.declared.script.ScriptItem.{ScriptItem}
-use Rattle.script_text.specs.Script.{ScriptState, is_built, is_again}
+use Rattle.script_text.specs.Script.{ScriptState, is_again}
 
 -- a node that a word names is one of the table
 abbrev pub fits_table : SetupState → ScriptWord → Bool
@@ -20,8 +20,7 @@ abbrev pub are_new : List ScriptItem → List ScriptItem → Bool
 are_new before [] = true
 are_new before (item ∷ items) = not (is_again item.word before) && are_new (before ++ item ∷ []) items
 
--- the programs play each word, each node is one of the table, and no operation's number is given twice
+-- each node is one of the table, and no operation's number is given twice
 pub record IsSound (script : ScriptState) : Type 0 where
-  pub built : list_all (λ item. is_built item.word) script.items ≡ true
   pub fits : list_all (λ item. fits_table script.setup item.word) script.items ≡ true
   pub new : are_new [] script.items ≡ true

@@ -97,13 +97,10 @@ impl Reader {
         Ok(())
     }
 
-    /// Takes a word, if the programs play it and its operation is new.
+    /// Takes a word, if its operation is new.
     fn take_word(&mut self, line: u64, word: ScriptWord) -> Result<(), LineRefused>
         ensures { IsTaken result self.new (take_word self.old line word) }
     {
-        if !word.is_built() {
-            return Err(LineRefused::Reason(Reason::NotBuilt));
-        }
         self.items.reserve(1)?;
         if let ScriptWord::Request { op, .. } = &word {
             if !self.known.insert(op.0)? {

@@ -1,6 +1,5 @@
 //! What a script asks.
 ghost use Rattle.std.specs.Prelude.{◌≡◌};
-ghost use Rattle.script_text.specs.Script.{is_built};
 
 use contract_types::Setup;
 use region_map::{Key, NodeId};
@@ -54,19 +53,6 @@ impl Model for Script {
     ghost Value = { ScriptState };
 
     ghost view = { λ a. record { setup = a.setup; items = a.items.items } };
-}
-
-impl ScriptWord {
-    /// Whether the programs play this word today.
-    pub fn is_built(&self) -> bool
-        ensures { result ≡ is_built self.now }
-    {
-        match self {
-            ScriptWord::Request { what, .. } => matches!(what, Op::Put(_)),
-            ScriptWord::Deliver { .. } => true,
-            _ => false,
-        }
-    }
 }
 
 impl Script {

@@ -21,7 +21,7 @@ fn accepts_scripts(rt: HostRuntime) -> Result<(), Fail> {
     let put = "{\"do\":\"put\",\"op\":1,\"node\":0,\"key\":\"a\",\"value\":\"x\"}\n";
     let first_write = format!(in rt.alloc(); "{setup}{put}{{\"do\":\"deliver\",\"message\":3}}")?;
     let with_blanks = format!(in rt.alloc(); "\n \t\r\n{setup}\n\n{put}\n")?;
-    let cases: [(&str, u8, u8, &[u64]); 6] = [
+    let cases: [(&str, u8, u8, &[u64]); 11] = [
         ("", 1, 8, &[]),
         (first_write.as_str(), 3, 1, &[2, 3]),
         (with_blanks.as_str(), 3, 1, &[6]),
@@ -38,6 +38,21 @@ fn accepts_scripts(rt: HostRuntime) -> Result<(), Fail> {
             8,
             &[1],
         ),
+        (
+            "{\"do\":\"delete\",\"op\":1,\"node\":0,\"key\":\"a\"}",
+            1,
+            8,
+            &[1],
+        ),
+        (
+            "{\"do\":\"read\",\"op\":1,\"node\":0,\"key\":\"a\"}",
+            1,
+            8,
+            &[1],
+        ),
+        ("{\"do\":\"giveup\",\"node\":0,\"for\":1}", 1, 8, &[1]),
+        ("{\"do\":\"lose\",\"message\":1}", 1, 8, &[1]),
+        ("{\"do\":\"flush\"}", 1, 8, &[1]),
     ];
     for (text, nodes, hashes, lines) in cases {
         let (read_nodes, read_hashes, read_lines) = told(rt.alloc(), text.as_bytes())?;
@@ -56,11 +71,11 @@ fn refuses_the_first_bad_line(rt: HostRuntime) -> Result<(), Fail> {
     let good = "{\"do\":\"deliver\",\"message\":1}\n";
     let cases: [&str; 24] = [
         "{\"do\":\"crash\",\"node\":0}",
-        "{\"do\":\"delete\",\"op\":1,\"node\":0,\"key\":\"a\"}",
-        "{\"do\":\"read\",\"op\":1,\"node\":0,\"key\":\"a\"}",
-        "{\"do\":\"giveup\",\"node\":0,\"for\":1}",
-        "{\"do\":\"lose\",\"message\":1}",
-        "{\"do\":\"flush\"}",
+        "{\"do\":\"delete\",\"op\":1,\"node\":0,\"key\":\"a\",\"value\":\"x\"}",
+        "{\"do\":\"read\",\"op\":1,\"node\":0}",
+        "{\"do\":\"giveup\",\"node\":0,\"op\":1}",
+        "{\"do\":\"lose\",\"message\":1,\"from\":0,\"to\":1}",
+        "{\"do\":\"flush\",\"only\":[0]}",
         "{\"do\":\"setup\",\"nodes\":3}",
         "{\"do\":\"put\",\"op\":1,\"node\":1,\"key\":\"a\",\"value\":\"x\"}",
         "{\"do\":\"put\",\"op\":1,\"node\":0,\"key\":\"\",\"value\":\"x\"}",

@@ -25,10 +25,10 @@ Printed script p result h h' f f' =
     Says (status_of p.met) (joined (report script.setup script.items p.past p.refused (ending_of p.met))) result h h' f f'
     ⊎ WantsUnsaid result h h'
 
-pub script_ends : (script : ScriptState) (past : List Entry) (refused : List Refusal) (met : Bool) (result : Status) (h h' : Option (List ℕ)) (f f' : ℕ)
-    → played_by past refused met ≡ play_journal script.setup script.items → Printed script (played_by past refused met) result h h' f f'
+pub script_ends : (script : ScriptState) (past : List Entry) (lost : List ℕ) (refused : List Refusal) (met : Bool) (result : Status) (h h' : Option (List ℕ)) (f f' : ℕ)
+    → played_by past lost refused met ≡ play_journal script.setup script.items → Printed script (played_by past lost refused met) result h h' f f'
     → Ends (plays script) result (journal_of script past) h h' f f' ⊎ Wants (Accepted script) result (journal_of script past) h h'
-script_ends script past refused met result h h' f f' e printed =
+script_ends script past lost refused met result h h' f f' e printed =
     elim (subst (λ (p : Played). Printed script p result h h' f f') e printed) [
       | inl says' ↦ inl (record { journal_is = λ i. record { setup = Some script.setup; past = (e i).past }; says = says' })
       | inr wants ↦ inr (record { status_is = wants.0; nothing_written = wants.1; played = inr (script, refl, (refl, ([], sym (ap (λ (p : Played). p.past) e)))) })

@@ -1,9 +1,9 @@
 //! The events of a script, in order.
-ghost use Rattle.std.specs.Prelude.{◌≡◌, ◌++◌, List, None, false, IfOk, OnErr};
-ghost use Rattle.node_core.specs.declared.journal.Entry.{Entry};
+ghost use Rattle.std.specs.Prelude.{◌≡◌, ◌++◌, ◌∷◌, [], None, false, IfOk, OnOk, OnErr};
 ghost use Rattle.world_core.specs.Run.{message_at};
-ghost use Rattle.table_play.specs.Play.{play_event, play_delivery, play_word, play_items};
-ghost use Rattle.table_play.specs.Steps.{played_at};
+ghost use Rattle.report_text.specs.declared.ending.EventRefused.TheVariants.{NoSuchMessage};
+ghost use Rattle.table_play.specs.Play.{play_event, play_delivery, play_loss, play_flush, play_word, play_items};
+ghost use Rattle.table_play.specs.Steps.{played_at, HasPartOf};
 
 use exec_types::Input;
 use memory::OutOfMemory;
@@ -11,7 +11,7 @@ use region_map::NodeId;
 use report_text::{EventRefused, Refusal};
 use script_text::{ScriptItem, ScriptWord};
 use std::alloc::Global;
-use world_core::{PushRefused, World};
+use world_core::{LoseRefused, PushRefused, World};
 
 /// Gives a node an input, where no refusal holds. The answer is whether the limit of the numbers was met.
 fn event(
@@ -40,6 +40,17 @@ fn event(
     }
 }
 
+/// Says that a line names a message that was not sent.
+fn refuse(line: u64, refused: &mut Vec<Refusal>) -> Result<(), OutOfMemory>
+    ensures { OnOk result (refused.new.items ≡ refused.old.items ++ record { line = line; reason = NoSuchMessage } ∷ []) }
+{
+    refused.push(Refusal {
+        line,
+        reason: EventRefused::NoSuchMessage,
+    })?;
+    Ok(())
+}
+
 /// Delivers the message of a number to the node that it is for; a message that was not sent is refused.
 fn deliver(
     alloc: Global,
@@ -58,14 +69,58 @@ fn deliver(
 {
     match world.receiver(message) {
         None => {
-            refused.push(Refusal {
-                line,
-                reason: EventRefused::NoSuchMessage,
-            })?;
+            refuse(line, refused)?;
             Ok(false)
         }
         Some(node) => event(alloc, world, node, Input::Deliver { message }, refused),
     }
+}
+
+/// Marks the message of a number lost; one that was not sent is refused.
+fn lose(
+    world: &mut World,
+    line: u64,
+    message: u64,
+    refused: &mut Vec<Refusal>,
+) -> Result<(), OutOfMemory>
+    requires { world.old.ended ≡ None }
+    ensures ok { OnOk result (played_at world.new refused.new.items false
+        ≡ play_loss (played_at world.old refused.old.items false) line message (message_at world.old.past message)) }
+    ensures on { world.new.ended ≡ None }
+    ensures setup { world.new.setup ≡ world.old.setup }
+    ensures err { OnErr result (world.new.past ≡ world.old.past) }
+{
+    match world.lose(message) {
+        Ok(()) => Ok(()),
+        Err(LoseRefused::NoSuchMessage) => refuse(line, refused),
+        Err(LoseRefused::OutOfMemory) => Err(OutOfMemory),
+    }
+}
+
+/// Delivers the least waiting message, again and again, until none waits or the limit of the numbers is met.
+fn flush(
+    alloc: Global,
+    world: &mut World,
+    line: u64,
+    refused: &mut Vec<Refusal>,
+) -> Result<bool, OutOfMemory>
+    requires { world.old.ended ≡ None }
+    ensures ok { IfOk result (λ met. played_at world.new refused.new.items met
+        ≡ play_flush world.old.setup (played_at world.old refused.old.items false) line) }
+    ensures on { IfOk result (λ met. met ≡ false → world.new.ended ≡ None) }
+    ensures setup { world.new.setup ≡ world.old.setup }
+    ensures err { OnErr result (HasPartOf world.new
+        (play_flush world.old.setup (played_at world.old refused.old.items false) line)) }
+{
+    for _count in 0..u64::MAX {
+        let Some(message) = world.waiting() else {
+            return Ok(false);
+        };
+        if deliver(alloc, world, line, message, refused)? {
+            return Ok(true);
+        }
+    }
+    Ok(false)
 }
 
 /// Plays the word of one line.
@@ -80,7 +135,8 @@ fn play_word(
         ≡ play_word world.old.setup (played_at world.old refused.old.items false) item.now.line item.now.word) }
     ensures on { IfOk result (λ met. met ≡ false → world.new.ended ≡ None) }
     ensures setup { world.new.setup ≡ world.old.setup }
-    ensures err { OnErr result (world.new.past ≡ world.old.past) }
+    ensures err { OnErr result (HasPartOf world.new
+        (play_word world.old.setup (played_at world.old refused.old.items false) item.now.line item.now.word)) }
 {
     match &item.word {
         ScriptWord::Request {
@@ -103,8 +159,11 @@ fn play_word(
             event(alloc, world, *node, Input::GiveUp { op: *op }, refused)
         }
         ScriptWord::Deliver { message } => deliver(alloc, world, item.line, *message, refused),
-        ScriptWord::Lose { .. } => Ok(false),
-        ScriptWord::Flush => Ok(false),
+        ScriptWord::Lose { message } => {
+            lose(world, item.line, *message, refused)?;
+            Ok(false)
+        }
+        ScriptWord::Flush => flush(alloc, world, item.line, refused),
     }
 }
 
@@ -119,9 +178,8 @@ pub fn play_items(
     ensures ok { IfOk result (λ met. played_at world.new refused.new.items met
         ≡ play_items world.old.setup (played_at world.old refused.old.items false) items.now) }
     ensures setup { world.new.setup ≡ world.old.setup }
-    ensures err { OnErr result ((later : List Entry)
-        × ((play_items world.old.setup (played_at world.old refused.old.items false) items.now).past
-        ≡ later ++ world.new.past)) }
+    ensures err { OnErr result (HasPartOf world.new
+        (play_items world.old.setup (played_at world.old refused.old.items false) items.now)) }
 {
     for item in items {
         if play_word(alloc, world, item, refused)? {

@@ -7,3 +7,4 @@ pub mod Runs
 pub mod States
 pub mod Steps
 pub mod Told
+pub mod Waits

@@ -1,9 +1,11 @@
 -- What a world keeps beside its journal, as entries come, and which events it refuses.
-use Rattle.std.proofs.Common.{◌≡◌, ◌≢◌, ◌↔◌, ◌⊎◌, Ok, Err, IsErrOf, ◌==◌, ℕ, zero, suc, ◌<◌, Bool, true, false, cond, ◌||◌, nat_lt, List, [], ◌∷◌, ◌++◌, map, length, set, get_or, Option, Some, None, inl, inr, refl, sym, ap, ◌∙◌, arith}
+use Rattle.std.proofs.Common.{◌≡◌, ◌≢◌, ◌↔◌, ◌⊎◌, Ok, Err, IsErrOf, ◌==◌, ℕ, zero, suc, ◌<◌, Bool, true, false, cond, not, ◌&&◌, ◌||◌, nat_lt, List, [], ◌∷◌, ◌++◌, map, length, set, get_or, Option, Some, None, inl, inr, refl, sym, ap, ap₂, ◌∙◌, subst, is_some, arith}
 use Rattle.std.proofs.lemmas.Bool.{cases_eq, cases_lt, eq-eqb, ne_eqb}
+use Rattle.std.proofs.lemmas.Bool.Decides.{nat_tests}
 use Rattle.std.proofs.lemmas.List.{same_lists, get_or_append_left, get_or-map, get_or-set_same, get_or-set_other, length-map, length-set}
 use Rattle.std.proofs.Math.Seq.{get_or-append_seam}
 use Rattle.std.proofs.Common.{length-append}
+use Rattle.std.specs.Ordering.{nat_cmp}
 use Rattle.std.specs.BTreeSet.{BTreeSet, contains}
 use Rattle.region_map.specs.declared.id.NodeId.{NodeId}
 use Rattle.register_laws.specs.declared.operation.OpId.{OpId}
@@ -21,8 +23,10 @@ use Rattle.node_core.specs.Step.{NodeState, nodes_below, node_step, ends_numbers
 use Rattle.world_core.specs.declared.envelope.Envelope.{Envelope}
 use Rattle.world_core.specs.declared.push_refused.PushRefused.{PushRefused}
 use Rattle.world_core.specs.declared.push_refused.PushRefused.TheVariants.{NoSuchNode, NotYours, OpKnown, JournalFull, OutOfMemory}
-use Rattle.world_core.specs.Run.{sent_by, brought, state, requests, is_requested, message_at, outs_of, entry_of}
-use Rattle.world_core.specs.World.{WorldState, states, step_refusal, numbers_refusal, owner_refusal, input_refusal, entry_refusal, event_refusal, unless_ended, push_refusal, op_cmp, IsInStep}
+use Rattle.world_core.specs.Run.{numbered, may_step, sent, sent_by, brought, state, requests, is_requested, message_at, outs_of, entry_of}
+use Rattle.world_core.specs.Waiting.{delivers, is_new, is_waiting}
+use Rattle.world_core.proofs.Waits.{waits_next, sent_next, arrives_sent, waits_lost, sent_lost}
+use Rattle.world_core.specs.World.{WorldState, states, step_refusal, numbers_refusal, owner_refusal, input_refusal, entry_refusal, event_refusal, unless_ended, push_refusal, op_cmp, AreSent, IsInStep}
 
 -- ---- lists by the numbers of nodes
 
@@ -89,19 +93,50 @@ state_at setup past n h = get_map_below (λ (k : ℕ). Some (state setup k past)
 pub length_states : (setup : SetupState) (past : List Entry) → length (states setup past) ≡ setup.nodes
 length_states setup past = length_map_below (λ (k : ℕ). Some (state setup k past)) setup.nodes
 
-pub IsInStep-next : (setup : SetupState) (past : List Entry) (node : NodeId) (input : Input) (nodes new : List (Option NodeState)) (messages more : List Envelope) (requested noted : BTreeSet OpId)
-    → IsInStep setup past nodes messages requested → node.0 < length nodes
+pub IsInStep-next : (setup : SetupState) (past : List Entry) (lost : List ℕ) (node : NodeId) (input : Input) (nodes new : List (Option NodeState)) (messages more : List Envelope) (waits waiting : BTreeSet ℕ) (requested noted : BTreeSet OpId)
+    → IsInStep setup past lost nodes messages waits requested → node.0 < length nodes → entry_refusal setup past node input ≡ None
     → new ≡ set nodes node.0 (Some (stepped setup past node input))
     → more ≡ messages ++ sent_by node (outs_of setup past node input)
+    → ((k : ℕ) → contains nat_cmp waiting k ≡ (not (delivers input k) && (is_new (length messages) (length more) k || contains nat_cmp waits k)))
     → ((op : OpId) → contains op_cmp noted op ≡ (requests input op || is_requested past op))
-    → IsInStep setup (entry_of setup past node input ∷ past) new more noted
-IsInStep-next setup past node input nodes new messages more requested noted h within n m r =
+    → IsInStep setup (entry_of setup past node input ∷ past) lost new more waiting noted
+IsInStep-next setup past lost node input nodes new messages more waits waiting requested noted h within goes n m w r =
+    let e : Entry = entry_of setup past node input in
     let count : length nodes ≡ setup.nodes = ap length h.states_are ∙ length_states setup past in
+    let sent_now : more ≡ sent past ++ sent_by node (outs_of setup past node input) = m ∙ ap (λ (l : List Envelope). l ++ sent_by node (outs_of setup past node input)) h.sent_are in
+    let arrives = arrives_sent setup past node input goes in
     record {
       states_are = n ∙ ap (λ (l : List (Option NodeState)). set l node.0 (Some (stepped setup past node input))) h.states_are ∙ states-next setup past node input (omega arith);
-      sent_are = m ∙ ap (λ (l : List Envelope). l ++ sent_by node (outs_of setup past node input)) h.sent_are;
+      sent_are = sent_now;
+      waits_are = λ k. waits_next past lost e k (contains nat_cmp waits k) (contains nat_cmp waiting k) h.known_sent (arrives k) (h.waits_are k)
+      (w k ∙ ap₂ (λ (a b : ℕ). not (delivers input k) && (is_new a b k || contains nat_cmp waits k)) (ap length h.sent_are) (ap length sent_now));
+      known_sent = sent_next past lost e h.known_sent arrives;
       ops_are = r;
     }
+
+-- one more message is marked lost
+pub IsInStep-lost : (setup : SetupState) (past : List Entry) (lost more : List ℕ) (m : ℕ) (nodes : List (Option NodeState)) (messages : List Envelope) (waits waiting : BTreeSet ℕ) (requested : BTreeSet OpId)
+    → IsInStep setup past lost nodes messages waits requested → more ≡ lost ++ m ∷ [] → is_some (numbered messages m) ≡ true
+    → ((k : ℕ) → contains nat_cmp waiting k ≡ (not (m == k) && contains nat_cmp waits k))
+    → IsInStep setup past more nodes messages waiting requested
+IsInStep-lost setup past lost more m nodes messages waits waiting requested h l s w =
+    let there : is_some (message_at past m) ≡ true = ap (λ (ms : List Envelope). is_some (numbered ms m)) (sym h.sent_are) ∙ s in
+    record {
+      states_are = h.states_are;
+      sent_are = h.sent_are;
+      waits_are = λ k. waits_lost past lost m k (contains nat_cmp waits k) (contains nat_cmp waiting k) (h.waits_are k) (w k) ∙ ap (λ (ls : List ℕ). is_waiting past ls k) (sym l);
+      known_sent = subst (AreSent past) (sym l) (sent_lost past lost m h.known_sent there);
+      ops_are = h.ops_are;
+    }
+
+-- ---- what a run may take
+
+-- an event that nothing refuses may be a step of a run
+pub goes_on : (setup : SetupState) (past : List Entry) (node : NodeId) (input : Input) → entry_refusal setup past node input ≡ None → numbers_refusal setup past node input ≡ None
+    → may_step setup past node input ≡ true
+goes_on setup past node (Request op key what) e n = grind (arith, nat_tests)
+goes_on setup past node (GiveUp op) e n = grind (arith, nat_tests)
+goes_on setup past node (Deliver number) e n = grind (arith, nat_tests)
 
 -- ---- refusals
 
@@ -131,9 +166,9 @@ event_refused setup past node input why =
       | false ↦ λ e. e
     ]
 
-pub push_refused : (w : WorldState) (setup : SetupState) (past : List Entry) (ended : Option PushRefused) (node : NodeId) (input : Input) (why : PushRefused)
-    → record { setup = setup; past = past; ended = ended } ≡ w → ended ≡ None → entry_refusal setup past node input ≡ Some why → push_refusal w node input ≡ Some why
-push_refused w setup past ended node input why e n h =
+pub push_refused : (w : WorldState) (setup : SetupState) (past : List Entry) (lost : List ℕ) (ended : Option PushRefused) (node : NodeId) (input : Input) (why : PushRefused)
+    → record { setup = setup; past = past; lost = lost; ended = ended } ≡ w → ended ≡ None → entry_refusal setup past node input ≡ Some why → push_refusal w node input ≡ Some why
+push_refused w setup past lost ended node input why e n h =
     ap (λ (v : WorldState). push_refusal v node input) (sym e) ∙ ap (λ (o : Option PushRefused). unless_ended o (event_refusal setup past node input)) n
     ∙ event_refused setup past node input why h
 
@@ -148,9 +183,9 @@ within_table setup past node input =
 -- ---- one step of one node
 
 -- the state that is stored for a node
-pub state_stored : (setup : SetupState) (past : List Entry) (nodes : List (Option NodeState)) (messages : List Envelope) (requested : BTreeSet OpId) (n : ℕ)
-    → IsInStep setup past nodes messages requested → n < length nodes → get_or nodes n None ≡ Some (state setup n past)
-state_stored setup past nodes messages requested n h within =
+pub state_stored : (setup : SetupState) (past : List Entry) (lost : List ℕ) (nodes : List (Option NodeState)) (messages : List Envelope) (waits : BTreeSet ℕ) (requested : BTreeSet OpId) (n : ℕ)
+    → IsInStep setup past lost nodes messages waits requested → n < length nodes → get_or nodes n None ≡ Some (state setup n past)
+state_stored setup past lost nodes messages waits requested n h within =
     let count : length nodes ≡ setup.nodes = ap length h.states_are ∙ length_states setup past in
     ap (λ (l : List (Option NodeState)). get_or l n None) h.states_are ∙ state_at setup past n (omega arith)
 

@@ -1,4 +1,5 @@
 pub mod Run
 pub mod Served
 pub mod Story
+pub mod Waiting
 pub mod World

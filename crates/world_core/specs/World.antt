@@ -1,8 +1,8 @@
 -- What clients see of a world, and which events it takes.
-use Rattle.std.specs.Prelude.{◌≡◌, ◌==◌, Bool, true, false, nat_lt, List, map, Option, Some, None, if◌then◌else◌}
+use Rattle.std.specs.Prelude.{◌≡◌, ℕ, ◌==◌, Bool, true, false, nat_lt, List, length, map, Option, Some, None, if◌then◌else◌}
 use Rattle.std.specs.declared.cmp.Ordering.{Ordering}
 use Rattle.std.specs.Ordering.{nat_cmp}
-use Rattle.std.specs.BTreeSet.{BTreeSet, contains}
+use Rattle.std.specs.BTreeSet.{BTreeSet, contains, IsLowerBound}
 use Rattle.region_map.specs.declared.id.NodeId.{NodeId}
 use Rattle.region_map.specs.declared.step_refused.StepRefused.{StepRefused}
 use Rattle.region_map.specs.declared.step_refused.StepRefused.TheVariants as step
@@ -18,11 +18,14 @@ use Rattle.world_core.specs.declared.envelope.Envelope.{Envelope}
 use Rattle.world_core.specs.declared.push_refused.PushRefused.{PushRefused}
 use Rattle.world_core.specs.declared.push_refused.PushRefused.TheVariants.{NoSuchNode, NoSuchMessage, NotYours, OpKnown, JournalFull, OutOfMemory}
 use Rattle.world_core.specs.Run.{IsRun, sent, is_requested, message_at, brought, state}
+use Rattle.world_core.specs.Waiting.{is_sent, is_delivered, is_lost, is_waiting}
 
--- what the table began with, the entries since, the newest first, and what the world answers once it ended
+-- what the table began with, the entries since, the newest first, the messages that were marked lost, and what the world
+-- answers once it ended
 pub record WorldState : Type 0 where
   pub setup : SetupState
   pub past : List Entry
+  pub lost : List ℕ
   pub ended : Option PushRefused
 
 abbrev pub step_refusal : StepRefused → PushRefused
@@ -93,13 +96,29 @@ op_cmp a b = nat_cmp a.0 b.0
 abbrev pub AreRequested : BTreeSet OpId → List Entry → Type 0
 AreRequested requested past = (op : OpId) → contains op_cmp requested op ≡ is_requested past op
 
+-- the messages that wait
+abbrev pub AreWaiting : BTreeSet ℕ → List Entry → List ℕ → Type 0
+AreWaiting waits past lost = (n : ℕ) → contains nat_cmp waits n ≡ is_waiting past lost n
+
+-- the least number of a set, where it has any
+abbrev pub IsLeastOf : BTreeSet ℕ → Option ℕ → Type 0
+IsLeastOf set None = length set.keys ≡ 0
+IsLeastOf set (Some n) = (contains nat_cmp set n ≡ true) × IsLowerBound nat_cmp set n
+
+-- what was delivered or lost was sent
+pub record AreSent (past : List Entry) (lost : List ℕ) : Type 0 where
+  pub delivered : (n : ℕ) → is_delivered past n ≡ true → is_sent past n ≡ true
+  pub lost_too : (n : ℕ) → is_lost lost n ≡ true → is_sent past n ≡ true
+
 -- the nodes, the messages and the operations are those that the journal gives
-pub record IsInStep (setup : SetupState) (past : List Entry) (nodes : List (Option NodeState)) (messages : List Envelope) (requested : BTreeSet OpId) : Type 0 where
+pub record IsInStep (setup : SetupState) (past : List Entry) (lost : List ℕ) (nodes : List (Option NodeState)) (messages : List Envelope) (waits : BTreeSet ℕ) (requested : BTreeSet OpId) : Type 0 where
   pub states_are : nodes ≡ states setup past
   pub sent_are : messages ≡ sent past
+  pub waits_are : AreWaiting waits past lost
+  pub known_sent : AreSent past lost
   pub ops_are : AreRequested requested past
 
-pub record IsWorld (setup : SetupState) (journal : JournalState) (nodes : List (Option NodeState)) (messages : List Envelope) (requested : BTreeSet OpId) (ended : Option PushRefused) : Type 0 where
+pub record IsWorld (setup : SetupState) (journal : JournalState) (lost : List ℕ) (nodes : List (Option NodeState)) (messages : List Envelope) (waits : BTreeSet ℕ) (requested : BTreeSet OpId) (ended : Option PushRefused) : Type 0 where
   pub begun : journal.setup ≡ Some setup
   pub run : IsRun setup journal.past
-  pub in_step : ended ≡ None → IsInStep setup journal.past nodes messages requested
+  pub in_step : ended ≡ None → IsInStep setup journal.past lost nodes messages waits requested

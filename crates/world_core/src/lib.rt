@@ -6,11 +6,13 @@
 
 pub use envelope::Envelope;
 pub use laws::{answers_of_runs, refusals_of_runs, stories_of_runs};
+pub use lose_refused::LoseRefused;
 pub use push_refused::PushRefused;
 pub use world::World;
 
 pub mod envelope;
 pub mod laws;
+pub mod lose_refused;
 pub mod parts;
 pub mod push_refused;
 pub mod world;

@@ -1,12 +1,14 @@
 //! What a world keeps beside its journal, and how an entry changes it.
-ghost use Rattle.std.specs.Prelude.{◌≡◌, ◌<◌, ◌↔◌, ◌⊎◌, ◌||◌, Some, None, false, true, ◌∷◌, OnOk, OnErr, IfOk, IfErr, IfSome, IsErrOf, IsTrue, List, map, length, nat_lt, slice_set, slice_index_or};
+ghost use Rattle.std.specs.Prelude.{◌≡◌, ℕ, ◌==◌, ◌<◌, ◌↔◌, ◌⊎◌, ◌||◌, ◌&&◌, not, Some, None, false, true, ◌∷◌, OnOk, OnErr, IfOk, IfErr, IfSome, IsErrOf, IsTrue, List, map, length, nat_lt, slice_set, slice_index_or};
+ghost use Rattle.std.specs.Ordering.{nat_cmp};
 ghost use Rattle.std.specs.BTreeSet.{contains};
 ghost use Rattle.contract_types.specs.Setup.{SetupState};
 ghost use Rattle.node_core.specs.declared.journal.Entry.{Entry};
 ghost use Rattle.node_core.specs.Step.{NodeState, begin_node, nodes_below, node_step, ends_numbers};
 ghost use Rattle.register_laws.specs.declared.operation.OpId.{OpId};
 ghost use Rattle.world_core.specs.Run.{sent, brought, requests, is_requested, entry_of};
-ghost use Rattle.world_core.specs.World.{op_cmp, AreRequested, IsInStep, entry_refusal, numbers_refusal, is_final};
+ghost use Rattle.world_core.specs.Waiting.{delivers};
+ghost use Rattle.world_core.specs.World.{op_cmp, AreRequested, IsLeastOf, IsInStep, entry_refusal, numbers_refusal, is_final};
 
 use crate::PushRefused;
 use crate::envelope::{Envelope, collect, find, open};
@@ -91,6 +93,29 @@ fn note(requested: &mut BTreeSet<OpId>, input: &Input) -> Result<(), OutOfMemory
     Ok(())
 }
 
+/// The least message that waits.
+pub(crate) fn least(waits: &BTreeSet<u64>) -> Option<u64>
+    ensures { IsLeastOf waits.now result }
+{
+    waits.first().copied()
+}
+
+/// A message waits no longer.
+pub(crate) fn stop_waiting(waits: &mut BTreeSet<u64>, message: u64)
+    ensures { (n : ℕ) → contains nat_cmp waits.new n ≡ (not (message == n) && contains nat_cmp waits.old n) }
+{
+    waits.remove(&message);
+}
+
+/// A message that is delivered waits no longer.
+fn arrive(waits: &mut BTreeSet<u64>, input: &Input)
+    ensures { (n : ℕ) → contains nat_cmp waits.new n ≡ (not (delivers input.now n) && contains nat_cmp waits.old n) }
+{
+    if let Input::Deliver { message } = input {
+        stop_waiting(waits, *message);
+    }
+}
+
 /// The first refusal of an event that needs no step of its node.
 pub(crate) fn refusal(
     setup: &Setup,
@@ -134,25 +159,27 @@ pub(crate) fn take(
     journal: &mut Journal,
     nodes: &mut Vec<Option<Node>>,
     messages: &mut Vec<Envelope>,
+    waits: &mut BTreeSet<u64>,
     requested: &mut BTreeSet<OpId>,
     alloc: Global,
     node: NodeId,
     input: Input,
 ) -> Result<(), PushRefused>
     requires { node.0 < length nodes.old.items }
-    ensures entry { (setup : SetupState)
-        → IsInStep setup journal.old.past nodes.old.items messages.old.items requested.old
+    ensures entry { (setup : SetupState) (lost : List ℕ)
+        → IsInStep setup journal.old.past lost nodes.old.items messages.old.items waits.old requested.old
         → OnOk result (journal.new
         ≡ record journal.old { past = entry_of setup journal.old.past node input ∷ journal.old.past }) }
-    ensures in_step { (setup : SetupState)
-        → IsInStep setup journal.old.past nodes.old.items messages.old.items requested.old
-        → OnOk result (IsInStep setup (entry_of setup journal.old.past node input ∷ journal.old.past)
-        nodes.new.items messages.new.items requested.new) }
-    ensures taken { (setup : SetupState)
-        → IsInStep setup journal.old.past nodes.old.items messages.old.items requested.old
+    ensures in_step { (setup : SetupState) (lost : List ℕ)
+        → IsInStep setup journal.old.past lost nodes.old.items messages.old.items waits.old requested.old
+        → entry_refusal setup journal.old.past node input ≡ None
+        → OnOk result (IsInStep setup (entry_of setup journal.old.past node input ∷ journal.old.past) lost
+        nodes.new.items messages.new.items waits.new requested.new) }
+    ensures taken { (setup : SetupState) (lost : List ℕ)
+        → IsInStep setup journal.old.past lost nodes.old.items messages.old.items waits.old requested.old
         → OnOk result (numbers_refusal setup journal.old.past node input ≡ None) }
-    ensures refused { (setup : SetupState)
-        → IsInStep setup journal.old.past nodes.old.items messages.old.items requested.old
+    ensures refused { (setup : SetupState) (lost : List ℕ)
+        → IsInStep setup journal.old.past lost nodes.old.items messages.old.items waits.old requested.old
         → IfErr result (λ why. (why ≡ PushRefused.OutOfMemory)
         ⊎ (numbers_refusal setup journal.old.past node input ≡ Some why)) }
     ensures ends { IfErr result (λ why. is_final why ≡ true) }
@@ -160,7 +187,8 @@ pub(crate) fn take(
 {
     let brought = bring(alloc, messages, &input)?;
     let outputs = step_node(nodes, alloc, node, &input, brought)?;
-    collect(alloc, node, outputs.as_slice(), messages)?;
+    collect(alloc, node, outputs.as_slice(), messages, waits)?;
+    arrive(waits, &input);
     note(requested, &input)?;
     journal.push(Entry {
         node,

@@ -1,12 +1,13 @@
 //! All nodes of a table, and the network between them.
-ghost use Rattle.std.specs.Prelude.{◌≡◌, ◌∷◌, ◌⊎◌, [], Some, None, OnOk, IfOk, IfErr, length};
+ghost use Rattle.std.specs.Prelude.{◌≡◌, ◌∷◌, ◌++◌, ◌⊎◌, ◌↔◌, [], Some, None, OnOk, OnErr, IfOk, IfErr, IsErrOf, length};
 ghost use Rattle.node_core.specs.declared.journal.Entry.{Entry};
 ghost use Rattle.world_core.specs.Run.{IsRun, message_at, entry_of};
+ghost use Rattle.world_core.specs.Waiting.{waiting};
 ghost use Rattle.world_core.specs.World.{push_refusal, after_refusal, receiver_of};
 
-use crate::PushRefused;
+use crate::{LoseRefused, PushRefused};
 use crate::envelope::{Envelope, find};
-use crate::parts::{begin_nodes, refusal, take};
+use crate::parts::{begin_nodes, least, refusal, stop_waiting, take};
 use contract_types::Setup;
 use exec_types::Input;
 use memory::OutOfMemory;
@@ -24,6 +25,10 @@ pub struct World {
     journal: Journal,
     nodes: Vec<Option<Node>>,
     sent: Vec<Envelope>,
+    /// The messages that were marked lost, in the order in which they were.
+    lost: Vec<u64>,
+    /// The messages that were neither delivered nor lost.
+    waits: BTreeSet<u64>,
     requested: BTreeSet<OpId>,
     ended: Option<PushRefused>,
 }
@@ -33,15 +38,15 @@ impl Model for World {
 
     ghost Value = { WorldState };
 
-    ghost view = { λ a. record { setup = a.setup; past = a.journal.past; ended = a.ended } };
+    ghost view = { λ a. record { setup = a.setup; past = a.journal.past; lost = a.lost.items; ended = a.ended } };
 
-    ghost invariant = { λ a. IsWorld a.setup a.journal a.nodes.items a.sent.items a.requested a.ended };
+    ghost invariant = { λ a. IsWorld a.setup a.journal a.lost.items a.nodes.items a.sent.items a.waits a.requested a.ended };
 }
 
 impl World {
     /// A table as it begins, with no message sent.
     pub fn begin(alloc: Global, setup: Setup) -> Result<World, OutOfMemory>
-        ensures { IfOk result (λ world. world ≡ record { setup = setup; past = []; ended = None }) }
+        ensures { IfOk result (λ world. world ≡ record { setup = setup; past = []; lost = []; ended = None }) }
     {
         let nodes = begin_nodes(alloc, &setup)?;
         Ok(World {
@@ -49,6 +54,8 @@ impl World {
             journal: Journal::begin(alloc, setup),
             nodes,
             sent: Vec::new(alloc),
+            lost: Vec::new(alloc),
+            waits: BTreeSet::new(alloc),
             requested: BTreeSet::new(alloc),
             ended: None,
         })
@@ -75,6 +82,7 @@ impl World {
             &mut self.journal,
             &mut self.nodes,
             &mut self.sent,
+            &mut self.waits,
             &mut self.requested,
             alloc,
             node,
@@ -94,6 +102,29 @@ impl World {
             Some(envelope) => Some(envelope.to),
             None => None,
         }
+    }
+
+    /// The least message that waits: it was sent, and was neither delivered nor lost. Of a world that ended nothing is
+    /// said.
+    pub fn waiting(&self) -> Option<u64>
+        ensures { self.now.ended ≡ None → result ≡ waiting self.now.past self.now.lost }
+    {
+        least(&self.waits)
+    }
+
+    /// Marks a message lost: it waits no longer, and may still be delivered. Of a world that ended nothing is said.
+    pub fn lose(&mut self, message: u64) -> Result<(), LoseRefused>
+        ensures lost { OnOk result (self.new ≡ record self.old { lost = self.old.lost ++ message ∷ [] }) }
+        ensures no_such_message { self.old.ended ≡ None
+            → (IsErrOf result LoseRefused.NoSuchMessage ↔ message_at self.old.past message ≡ None) }
+        ensures err { OnErr result (self.new ≡ self.old) }
+    {
+        let Some(_) = find(&self.sent, message) else {
+            return Err(LoseRefused::NoSuchMessage);
+        };
+        self.lost.push(message)?;
+        stop_waiting(&mut self.waits, message);
+        Ok(())
     }
 
     /// What the table began with.

@@ -16,15 +16,15 @@ returns-clause-ends g c =
     let after = c.play_items-played.new.world in
     let refused : List Refusal = c.play_items-played.new.refused.items in
     let met = c.in-Ok-played.met in
-    let start : c.in-Ok.world ≡ record { setup = script.setup; past = []; ended = None } =
-    c.in-Ok.ensures ∙ ap (λ (s : SetupState). record { setup = s; past = []; ended = None }) c.setup.ensures in
-    let played : played_by after.past refused met ≡ play_journal script.setup script.items =
+    let start : c.in-Ok.world ≡ record { setup = script.setup; past = []; lost = []; ended = None } =
+    c.in-Ok.ensures ∙ ap (λ (s : SetupState). record { setup = s; past = []; lost = []; ended = None }) c.setup.ensures in
+    let played : played_by after.past after.lost refused met ≡ play_journal script.setup script.items =
     c.in-Ok-played.ensures.ok ∙ (λ i. play_items (start i).setup (played_at (start i) (c.new-refused.ensures.items i) false) (c.items.ensures i)) in
     let setup' : after.setup ≡ script.setup = c.play_items-played.ensures.setup ∙ ap (λ (w : WorldState). w.setup) start in
     let journal : c.into_journal.result ≡ journal_of script after.past =
     c.into_journal.ensures.value ∙ (λ i. record { setup = Some (setup' i); past = after.past }) in
-    let printed : Printed script (played_by after.past refused met) c.print.result (g.K.Sink.held c.args.sink.now) (g.K.Sink.held c.print.new.sink) (g.K.Sink.faults c.args.sink.now) (g.K.Sink.faults c.print.new.sink) =
-    subst (λ (j : JournalState). Printed script (played_by j.past refused met) c.print.result (g.K.Sink.held c.args.sink.now) (g.K.Sink.held c.print.new.sink) (g.K.Sink.faults c.args.sink.now) (g.K.Sink.faults c.print.new.sink)) journal
-    (subst (λ (l : List Refusal). Printed script (played_by c.into_journal.result.past l met) c.print.result (g.K.Sink.held c.args.sink.now) (g.K.Sink.held c.print.new.sink) (g.K.Sink.faults c.args.sink.now) (g.K.Sink.faults c.print.new.sink)) c.deref.ensures.value c.print.ensures) in
+    let printed : Printed script (played_by after.past after.lost refused met) c.print.result (g.K.Sink.held c.args.sink.now) (g.K.Sink.held c.print.new.sink) (g.K.Sink.faults c.args.sink.now) (g.K.Sink.faults c.print.new.sink) =
+    subst (λ (j : JournalState). Printed script (played_by j.past after.lost refused met) c.print.result (g.K.Sink.held c.args.sink.now) (g.K.Sink.held c.print.new.sink) (g.K.Sink.faults c.args.sink.now) (g.K.Sink.faults c.print.new.sink)) journal
+    (subst (λ (l : List Refusal). Printed script (played_by c.into_journal.result.past after.lost l met) c.print.result (g.K.Sink.held c.args.sink.now) (g.K.Sink.held c.print.new.sink) (g.K.Sink.faults c.args.sink.now) (g.K.Sink.faults c.print.new.sink)) c.deref.ensures.value c.print.ensures) in
     subst (λ (j : JournalState). Ends (plays script) c.print.result j (g.K.Sink.held c.args.sink.now) (g.K.Sink.held c.print.new.sink) (g.K.Sink.faults c.args.sink.now) (g.K.Sink.faults c.print.new.sink) ⊎ Wants (Accepted script) c.print.result j (g.K.Sink.held c.args.sink.now) (g.K.Sink.held c.print.new.sink)) (sym journal)
-    (script_ends script after.past refused met c.print.result (g.K.Sink.held c.args.sink.now) (g.K.Sink.held c.print.new.sink) (g.K.Sink.faults c.args.sink.now) (g.K.Sink.faults c.print.new.sink) played printed)
+    (script_ends script after.past after.lost refused met c.print.result (g.K.Sink.held c.args.sink.now) (g.K.Sink.held c.print.new.sink) (g.K.Sink.faults c.args.sink.now) (g.K.Sink.faults c.print.new.sink) played printed)

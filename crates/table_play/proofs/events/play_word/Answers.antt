@@ -1,0 +1,44 @@
+-- A call that wants memory leaves a part of what the word makes.
+use Rattle.std.proofs.Common.{false}
+use Rattle.std.proofs.lemmas.Result.{on_err_weaker}
+use Rattle.table_play.specs.Play.{play_word}
+use Rattle.table_play.specs.Steps.{played_at}
+use Rattle.table_play.proofs.Grows.{on_err, keeps_part, word_adds}
+use Rattle.table_play.proofs.events.play_word.Goals as goal
+
+pub returns-in_err-key-in-Request-clause-err : goal.returns-in_err-key-in-Request-clause-err
+returns-in_err-key-in-Request-clause-err c =
+    let w = c.args.world.now in
+    let p = played_at w c.args.refused.now.items false in
+    let item = c.args.item.now in
+    let more = word_adds w.setup p item.line item.word in
+    on_err c.from_residual.result (more.later, more.split)
+
+pub returns-in_err-what-in-Request-clause-err : goal.returns-in_err-what-in-Request-clause-err
+returns-in_err-what-in-Request-clause-err c =
+    let w = c.args.world.now in
+    let p = played_at w c.args.refused.now.items false in
+    let item = c.args.item.now in
+    let more = word_adds w.setup p item.line item.word in
+    on_err c.from_residual-in_err-what-in-Request.result (more.later, more.split)
+
+pub returns-in_ok-what-in-Request-clause-err : goal.returns-in_ok-what-in-Request-clause-err
+returns-in_ok-what-in-Request-clause-err c =
+    let w = c.args.world.now in
+    let p = played_at w c.args.refused.now.items false in
+    let item = c.args.item.now in
+    on_err_weaker c.event.result (keeps_part w c.event.new.world (play_word w.setup p item.line item.word) (word_adds w.setup p item.line item.word)) c.event.ensures.err
+
+pub returns-in-GiveUp-clause-err : goal.returns-in-GiveUp-clause-err
+returns-in-GiveUp-clause-err c =
+    let w = c.args.world.now in
+    let p = played_at w c.args.refused.now.items false in
+    let item = c.args.item.now in
+    on_err_weaker c.event-in-GiveUp.result (keeps_part w c.event-in-GiveUp.new.world (play_word w.setup p item.line item.word) (word_adds w.setup p item.line item.word)) c.event-in-GiveUp.ensures.err
+
+pub returns-in-Deliver-clause-err : goal.returns-in-Deliver-clause-err
+returns-in-Deliver-clause-err c =
+    let w = c.args.world.now in
+    let p = played_at w c.args.refused.now.items false in
+    let item = c.args.item.now in
+    on_err_weaker c.deliver.result (keeps_part w c.deliver.new.world (play_word w.setup p item.line item.word) (word_adds w.setup p item.line item.word)) c.deliver.ensures.err

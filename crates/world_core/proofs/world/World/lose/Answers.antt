@@ -1,0 +1,18 @@
+-- A message that was sent and is marked lost waits no longer.
+use Rattle.std.proofs.Common.{◌≡◌, true, is_some, sym, ap, ◌∙◌}
+use Rattle.std.specs.Prelude.{Option}
+use Rattle.world_core.specs.declared.envelope.Envelope.{Envelope}
+use Rattle.world_core.specs.Run.{numbered}
+use Rattle.world_core.proofs.States.{IsInStep-lost}
+use Rattle.world_core.proofs.world.World.lose.Goals as goal
+
+pub invariant_of-self-2 : goal.invariant_of-self-2
+invariant_of-self-2 c =
+    let w = c.self.inside in
+    let there : is_some (numbered w.sent.items c.args.message) ≡ true =
+    ap (λ (o : Option Envelope). is_some o) (ap (λ (ms : _). numbered ms c.args.message) (sym c.deref.ensures.value) ∙ sym c.in-Some.ensures) in
+    record {
+      begun = c.self.invariant.begun;
+      run = c.self.invariant.run;
+      in_step = λ e. IsInStep-lost w.setup w.journal.past w.lost.items _ c.args.message w.nodes.items w.sent.items w.waits _ w.requested (c.self.invariant.in_step e) c.in_ok-push.ensures.items there c.stop_waiting.ensures;
+    }
