@@ -1,13 +1,11 @@
 -- What a secondary does with a part of a stream.
-use Rattle.std.specs.Prelude.{ℕ, ◌==◌, ◌+◌, ◌^◌, Bool, true, false, ◌&&◌, not, nat_lt, nat_le, List, [], ◌∷◌, Option, Some, if◌then◌else◌}
+use Rattle.std.specs.Prelude.{ℕ, ◌==◌, ◌+◌, ◌^◌, Bool, ◌&&◌, not, nat_lt, nat_le, List, [], ◌∷◌, Some, if◌then◌else◌}
 use Rattle.region_map.specs.declared.id.NodeId.{NodeId}
 use Rattle.exec_types.specs.Sessions.{same_session}
 use Rattle.exec_types.specs.declared.message.Stream.{Stream}
 use Rattle.exec_types.specs.declared.message.Part.{Part}
 use Rattle.exec_types.specs.declared.message.Part.TheVariants.{Write, Sync}
-use Rattle.exec_types.specs.declared.message.Got.{Got}
 use Rattle.exec_types.specs.declared.output.Output.{Output}
-use Rattle.exec_types.specs.declared.message.Message.{Message as Sent}
 use Rattle.exec_types.specs.declared.message.Message.TheVariants as message
 use Rattle.exec_types.specs.declared.output.Output.TheVariants.{Message}
 use Rattle.store_plain.specs.Rows.{Rows, with_row}
