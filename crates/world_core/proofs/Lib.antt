@@ -4,7 +4,9 @@ pub mod Outs
 pub mod Refusals
 pub mod RegisterStory
 pub mod Runs
+pub mod Single
 pub mod States
 pub mod Steps
+pub mod Surrenders
 pub mod Told
 pub mod Waits

@@ -232,7 +232,7 @@ with_stands-waiting : (d : DispatchState) (from : NodeId) (got : Got) (stands : 
 with_stands-waiting d from got None = refl
 with_stands-waiting d from got (Some at) = refl
 
-got_row-waiting : (x : Execution) (from : NodeId) (got : Got) → (got_row x from got).dispatch.waiting ≡ x.dispatch.waiting
+pub got_row-waiting : (x : Execution) (from : NodeId) (got : Got) → (got_row x from got).dispatch.waiting ≡ x.dispatch.waiting
 got_row-waiting x from got =
     cond_both (is_live x from got.session) (record x { sessions = map (with_acked from got.session got.upto) x.sessions; dispatch = with_stands x.dispatch from got got.stands }) x
     (λ (y : Execution). y.dispatch.waiting ≡ x.dispatch.waiting) (λ _. with_stands-waiting x.dispatch from got got.stands) (λ _. refl)

@@ -1,3 +1,5 @@
+pub mod Answers
+pub mod GivenUp
 pub mod Run
 pub mod Served
 pub mod Story

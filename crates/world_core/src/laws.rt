@@ -1,12 +1,16 @@
 //! What holds of every run.
-ghost use Rattle.std.specs.Prelude.{◌≡◌, ◌≢◌, ◌↔◌, ℕ, List, Some, IsTrue};
+ghost use Rattle.std.specs.Prelude.{◌≡◌, ◌≢◌, ◌↔◌, ◌≤◌, ℕ, List, Some, IsTrue, false};
 ghost use Rattle.contract_types.specs.Setup.{SetupState};
 ghost use Rattle.register_laws.specs.declared.operation.OpId.{OpId};
-ghost use Rattle.exec_types.specs.declared.outcome.Outcome.TheVariants.{NotServing};
+ghost use Rattle.contract_types.specs.declared.counts.Counts.{Counts};
+ghost use Rattle.exec_types.specs.declared.outcome.Outcome.TheVariants.{NotServing, NoMajority};
 ghost use Rattle.node_core.specs.declared.journal.Entry.{Entry};
 ghost use Rattle.world_core.specs.Run.{IsRun, is_requested};
 ghost use Rattle.world_core.specs.Story.{IsRegisterStory, story, answer, is_answered};
 ghost use Rattle.world_core.specs.Served.{IsNotServed};
+ghost use Rattle.world_core.specs.GivenUp.{IsGivenUp};
+ghost use Rattle.world_core.specs.Answers.{answers_to};
+ghost use Rattle.write_dispatch.specs.Dispatch.{are_majorities};
 
 /// In every run, each key's story is a register story.
 pub fn stories_of_runs()
@@ -27,4 +31,18 @@ pub fn refusals_of_runs()
 pub fn answers_of_runs()
     ensures { (setup : SetupState) (past : List Entry) → IsRun setup past
         → (op : OpId) → IsTrue (is_answered past op) → IsTrue (is_requested past op) }
+{}
+
+/// In every run, "no majority" is answered only where the operation was given up while it was pending, with the counts
+/// that it then had, and these are no majorities.
+pub fn surrenders_of_runs()
+    ensures given_up { (setup : SetupState) (past : List Entry) → IsRun setup past
+        → (op : OpId) (counts : Counts) → answer past op ≡ Some (NoMajority counts) → IsGivenUp setup past op counts }
+    ensures short { (setup : SetupState) (past : List Entry) → IsRun setup past
+        → (op : OpId) (counts : Counts) → answer past op ≡ Some (NoMajority counts) → are_majorities counts ≡ false }
+{}
+
+/// In every run, an operation is answered at most once.
+pub fn single_answers_of_runs()
+    ensures { (setup : SetupState) (past : List Entry) → IsRun setup past → (op : OpId) → answers_to past op ≤ 1 }
 {}
