@@ -1,3 +1,4 @@
+pub mod Complete
 pub mod Flushes
 pub mod Grows
 pub mod Outcomes

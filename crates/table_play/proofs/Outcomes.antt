@@ -46,3 +46,11 @@ journal_story journal h key = run_from_story journal.setup journal.past h key
 -- the entries of a journal that is one of a setup are a run
 pub journal_run : (journal : JournalState) → IsRunJournal journal → (setup : SetupState) → journal.setup ≡ Some setup → IsRun setup journal.past
 journal_run journal h setup e = subst (λ (o : Option SetupState). IsRunFrom o journal.past) e h
+
+run_of_some : (setup : Option SetupState) (past : List Entry) → IsRunFrom setup past → (s : SetupState) × IsRun s past
+run_of_some None past h = (record { nodes = 1; hashes = 1 }, subst (λ (p : List Entry). IsRun (record { nodes = 1; hashes = 1 }) p) (sym h) tt)
+run_of_some (Some setup) past h = (setup, h)
+
+-- the entries of a journal are a run of some setup
+pub journal_of_run : (journal : JournalState) → IsRunJournal journal → (s : SetupState) × IsRun s journal.past
+journal_of_run journal h = run_of_some journal.setup journal.past h

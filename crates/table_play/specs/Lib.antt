@@ -1,3 +1,4 @@
 pub mod Headline
 pub mod Play
 pub mod Steps
+pub mod Whole

@@ -15,6 +15,7 @@ use std::process::ExitCode;
 use std::{env, io};
 
 pub mod events;
+pub mod laws;
 pub mod play;
 pub mod saying;
 #[cfg(test)]

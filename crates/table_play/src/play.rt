@@ -1,13 +1,17 @@
 //! The top call.
-ghost use Rattle.std.specs.Prelude.{◌≡◌, ◌⊎◌, ℕ, List, Some, map};
+ghost use Rattle.std.specs.Prelude.{◌≡◌, ◌⊎◌, ◌≤◌, ℕ, List, Some, false, map};
 ghost use Rattle.node_core.specs.Journal.{empty_journal};
 ghost use Rattle.script_text.specs.Lines.{Accepted, read_lines};
 ghost use Rattle.report_text.specs.Report.{report, joined};
+ghost use Rattle.world_core.specs.Answers.{answers_to};
+ghost use Rattle.world_core.specs.GivenUp.{IsGivenUp};
 ghost use Rattle.world_core.specs.Served.{IsNotServed};
+ghost use Rattle.write_dispatch.specs.Dispatch.{are_majorities};
 ghost use Rattle.world_core.specs.Story.{IsRegisterStory, answer, story};
 ghost use Rattle.contract_types.specs.Setup.{SetupState};
 ghost use Rattle.register_laws.specs.declared.operation.OpId.{OpId};
-ghost use Rattle.exec_types.specs.declared.outcome.Outcome.TheVariants.{NotServing};
+ghost use Rattle.contract_types.specs.declared.counts.Counts.{Counts};
+ghost use Rattle.exec_types.specs.declared.outcome.Outcome.TheVariants.{NotServing, NoMajority};
 ghost use Rattle.table_play.specs.Play.{ending_of};
 ghost use Rattle.table_play.specs.Headline.{is_command, IsPlay, IsRunJournal, Ends, Wants, WantsUnsaid, Says, outcome_of_script, plays, status_of};
 
@@ -183,6 +187,11 @@ pub fn play<S: Source, K: Sink>(
         → answer journal.new.past op ≡ Some NotServing → IsNotServed setup journal.new.past op }
     ensures not_serving_always { (setup : SetupState) (op : OpId) → journal.new.setup ≡ Some setup
         → IsNotServed setup journal.new.past op → answer journal.new.past op ≡ Some NotServing }
+    ensures no_majority { (op : OpId) (counts : Counts)
+        → answer journal.new.past op ≡ Some (NoMajority counts) → are_majorities counts ≡ false }
+    ensures given_up { (setup : SetupState) (op : OpId) (counts : Counts) → journal.new.setup ≡ Some setup
+        → answer journal.new.past op ≡ Some (NoMajority counts) → IsGivenUp setup journal.new.past op counts }
+    ensures answered_once { (op : OpId) → answers_to journal.new.past op ≤ 1 }
 {
     play_words(alloc, words, source, sink, journal)
 }

@@ -1,5 +1,8 @@
 use Rattle.world_core.proofs.Refusals.{answered_not_served, not_served_answered}
-use Rattle.table_play.proofs.Outcomes.{journal_run, journal_story}
+use Rattle.world_core.proofs.Surrenders.{no_majority_given_up}
+use Rattle.table_play.proofs.Outcomes.{journal_run, journal_story, journal_of_run}
+use Rattle.world_core.proofs.Single.{answered_once}
+use Rattle.world_core.specs.Answers.{answers_to}
 use Rattle.table_play.proofs.play.play.Goals as goal
 
 pub returns-clause-stories : goal.returns-clause-stories
@@ -10,3 +13,12 @@ returns-clause-not_serving_only g c = λ setup op e. answered_not_served setup _
 
 pub returns-clause-not_serving_always : goal.returns-clause-not_serving_always
 returns-clause-not_serving_always g c = λ setup op e. not_served_answered setup _ (journal_run _ c.play_words.ensures.run setup e) op
+
+pub returns-clause-no_majority : goal.returns-clause-no_majority
+returns-clause-no_majority g c = λ op counts a. let r = journal_of_run _ c.play_words.ensures.run in (no_majority_given_up r.0 _ r.1 op counts a).1
+
+pub returns-clause-given_up : goal.returns-clause-given_up
+returns-clause-given_up g c = λ setup op counts e a. (no_majority_given_up setup _ (journal_run _ c.play_words.ensures.run setup e) op counts a).0
+
+pub returns-clause-answered_once : goal.returns-clause-answered_once
+returns-clause-answered_once g c = λ op. let r = journal_of_run _ c.play_words.ensures.run in answered_once r.0 _ r.1 op
