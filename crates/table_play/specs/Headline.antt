@@ -109,11 +109,11 @@ pub record WantsFirst (result : Status) (journal : JournalState) (held held' : O
   pub nothing_written : held' ≡ held
   pub nothing_played : journal ≡ empty_journal
 
--- the words are no command, and nothing was read; or they are, and the outcome is that of what was read, or memory was
+-- the words are no command, and the source was left as it was; or they are, and the outcome is that of what was read, or memory was
 -- wanted on the way; or memory was wanted before
 abbrev pub IsPlay : List (List ℕ) → Status → JournalState → Option (List ℕ) → Option (List ℕ) → ℕ → ℕ → Option (List ℕ) → Option (List ℕ) → ℕ → ℕ → Type 0
 IsPlay words result journal left left' faults faults' held held' writes writes' =
-    ((is_command words ≡ false) × (left' ≡ left) × Ends outcome_of_words result journal held held' writes writes')
+    ((is_command words ≡ false) × (left' ≡ left) × (faults' ≡ faults) × Ends outcome_of_words result journal held held' writes writes')
     ⊎ (((is_command words ≡ true) × ((r : Reading) × IsReading r left left' faults faults' × (Ends (outcome_of r) result journal held held' writes writes' ⊎ WantsOf r result journal held held')))
     ⊎ ((is_command words ≡ true) × WantsFirst result journal held held'))
 

@@ -1,6 +1,5 @@
 -- What a call owes where its source and its sink tell their bytes and meet no fault.
 use Rattle.std.specs.Prelude.{◌≡◌, ℕ, nat_le, ◌++◌, List, length, if◌then◌else◌}
-use Rattle.contract_types.specs.declared.limits.Which.TheVariants.{ScriptBytes}
 use Rattle.node_core.specs.Journal.{JournalState}
 use Rattle.script_text.specs.declared.status.Status.{Status}
 use Rattle.script_text.specs.Lines.{read_lines}

@@ -1,4 +1,5 @@
 pub mod Facts
+pub mod GivingUp
 pub mod Orders
 pub mod Outs
 pub mod Refusals
@@ -7,6 +8,5 @@ pub mod Runs
 pub mod Single
 pub mod States
 pub mod Steps
-pub mod Surrenders
 pub mod Told
 pub mod Waits

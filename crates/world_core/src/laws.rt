@@ -35,7 +35,7 @@ pub fn answers_of_runs()
 
 /// In every run, "no majority" is answered only where the operation was given up while it was pending, with the counts
 /// that it then had, and these are no majorities.
-pub fn surrenders_of_runs()
+pub fn give_ups_of_runs()
     ensures given_up { (setup : SetupState) (past : List Entry) → IsRun setup past
         → (op : OpId) (counts : Counts) → answer past op ≡ Some (NoMajority counts) → IsGivenUp setup past op counts }
     ensures short { (setup : SetupState) (past : List Entry) → IsRun setup past

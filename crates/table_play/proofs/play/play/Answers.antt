@@ -1,8 +1,7 @@
 use Rattle.world_core.proofs.Refusals.{answered_not_served, not_served_answered}
-use Rattle.world_core.proofs.Surrenders.{no_majority_given_up}
+use Rattle.world_core.proofs.GivingUp.{no_majority_given_up}
 use Rattle.table_play.proofs.Outcomes.{journal_run, journal_story, journal_of_run}
 use Rattle.world_core.proofs.Single.{answered_once}
-use Rattle.world_core.specs.Answers.{answers_to}
 use Rattle.table_play.proofs.play.play.Goals as goal
 
 pub returns-clause-stories : goal.returns-clause-stories

@@ -1,5 +1,5 @@
-use Rattle.world_core.proofs.Surrenders.{no_majority_given_up}
-use Rattle.world_core.proofs.laws.surrenders_of_runs.Goals as goal
+use Rattle.world_core.proofs.GivingUp.{no_majority_given_up}
+use Rattle.world_core.proofs.laws.give_ups_of_runs.Goals as goal
 
 pub returns-clause-given_up : goal.returns-clause-given_up
 returns-clause-given_up c = λ setup past h op counts a. (no_majority_given_up setup past h op counts a).0
