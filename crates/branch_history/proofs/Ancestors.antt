@@ -7,7 +7,7 @@ use Rattle.branch_history.specs.declared.version.Version.{Version}
 use Rattle.branch_history.specs.declared.history.BranchBirth.{BranchBirth}
 use Rattle.branch_history.specs.Paths.{Branches, is_branch, zero, origin_at, is_on, ancestor, whole}
 use Rattle.branch_history.specs.Histories.{IsHistory}
-use Rattle.branch_history.proofs.PathLaws.{Other, Own, Older, Outside, id_self, other_is, outside_is, own_on, older_on, part, zero_on, on_zero, older_not_new, raise, on_self, on_antisym, on_forward}
+use Rattle.branch_history.proofs.PathLaws.{Other, Own, Older, Outside, id_self, other_is, outside_is, own_on, older_on, part, zero_on, on_zero, older_not_new, raise, on_self, on_trans, on_antisym, on_forward}
 
 -- a point on both paths, of which every point on both is on its path
 pub record IsLast (bs : Branches) (h : ℕ) (k : List ℕ) (v w a : Version) : Type 0 where
@@ -91,7 +91,7 @@ module _ (b : Id × BranchBirth) (bs : Branches) (h : ℕ) (k : List ℕ) (i : I
     last = λ x e d. raise b bs h k v a x i s.first (s.last x (sym (other_is b bs h k v x f) ∙ e) (sym (other_is b bs h k w x g) ∙ d));
   }
 
-swapped : (bs : Branches) (h : ℕ) (k : List ℕ) (v w a : Version) → IsLast bs h k v w a → IsLast bs h k w v a
+pub swapped : (bs : Branches) (h : ℕ) (k : List ℕ) (v w a : Version) → IsLast bs h k v w a → IsLast bs h k w v a
 swapped bs h k v w a s = record { first = s.second; second = s.first; last = λ x e d. s.last x d e }
 
 pub ancestor_last : (bs : Branches) (h : ℕ) (k : List ℕ) (v w : Version) → IsHistory bs → IsLast bs h k v w (ancestor bs h k v w)
@@ -139,3 +139,28 @@ projects_once bs h k v w i =
 -- what is on the path of any version of a branch is on that of the whole branch
 pub on_whole : (bs : Branches) (h : ℕ) (k : List ℕ) (id : Id) (t : ℕ) (x : Version) → t < 18446744073709551616 → is_on bs h k (record { branch = Some id; timestamp = t }) x ≡ true → is_on bs h k (whole id) x ≡ true
 on_whole bs h k id t x l e = on_forward bs h k (record { branch = Some id; timestamp = t }) (whole id) x refl (omega arith) e
+
+-- ---- what follows
+
+pub ancestor_only : (bs : Branches) (h : ℕ) (k : List ℕ) (v w a : Version) → IsHistory bs → is_on bs h k v a ≡ true → is_on bs h k w a ≡ true
+    → ((x : Version) → is_on bs h k v x ≡ true → is_on bs h k w x ≡ true → is_on bs h k a x ≡ true) → a ≡ ancestor bs h k v w
+ancestor_only bs h k v w a i e d all = last_is bs h k v w a (ancestor bs h k v w) i (record { first = e; second = d; last = all }) (ancestor_last bs h k v w i)
+
+pub ancestor_swaps : (bs : Branches) (h : ℕ) (k : List ℕ) (v w : Version) → IsHistory bs → ancestor bs h k v w ≡ ancestor bs h k w v
+ancestor_swaps bs h k v w i =
+    last_is bs h k v w (ancestor bs h k v w) (ancestor bs h k w v) i (ancestor_last bs h k v w i) (swapped bs h k w v (ancestor bs h k w v) (ancestor_last bs h k w v i))
+
+-- the common ancestor of a version and a point of its path is that point
+pub ancestor_point : (bs : Branches) (h : ℕ) (k : List ℕ) (v x : Version) → IsHistory bs → is_on bs h k v x ≡ true → ancestor bs h k v x ≡ x
+ancestor_point bs h k v x i e = sym (ancestor_only bs h k v x x i e (on_self bs h k v x i e) (λ y _ d. d))
+
+-- what a version has on its path, every version has whose path it is on
+pub ancestors_keep_order : (bs : Branches) (h : ℕ) (k : List ℕ) (v w u : Version) → IsHistory bs → is_on bs h k v w ≡ true → is_on bs h k (ancestor bs h k v u) (ancestor bs h k w u) ≡ true
+ancestors_keep_order bs h k v w u i e =
+    let low = ancestor_last bs h k w u i in
+    (ancestor_last bs h k v u i).last (ancestor bs h k w u) (on_trans bs h k v w (ancestor bs h k w u) i e low.first) low.second
+
+-- a point of a branch that is on the path of a version is on that of its projection
+pub projection_last : (bs : Branches) (h : ℕ) (k : List ℕ) (v x : Version) (id : Id) (t : ℕ) → IsHistory bs → t < 18446744073709551616 → is_on bs h k v x ≡ true
+    → is_on bs h k (record { branch = Some id; timestamp = t }) x ≡ true → is_on bs h k (ancestor bs h k v (whole id)) x ≡ true
+projection_last bs h k v x id t i l e d = (ancestor_last bs h k v (whole id) i).last x e (on_whole bs h k id t x l d)

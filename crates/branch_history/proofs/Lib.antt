@@ -1,3 +1,6 @@
 pub mod Ancestors
+pub mod Births
+pub mod Grown
 pub mod PathLaws
+pub mod Times
 pub mod Walked

@@ -10,7 +10,7 @@ use Rattle.branch_history.specs.Histories.{knows, knows_branch, IsHistory}
 
 -- ---- ids and the zero version
 
-id_same : (a b : Id) → id_eq a b ≡ true → a ≡ b
+pub id_same : (a b : Id) → id_eq a b ≡ true → a ≡ b
 id_same a b e =
     let p = and_parts _ _ e in
     let q = and_parts _ _ p.0 in
@@ -22,7 +22,7 @@ id_same a b e =
 pub id_self : (a : Id) → id_eq a a ≡ true
 id_self a = and_from _ _ (and_from _ _ (eq-eqb a.node.0 a.node.0 refl) (eq-eqb a.life a.life refl)) (eq-eqb a.counter a.counter refl)
 
-of_branch : (o : Option Id) (id : Id) → branch_is o id ≡ true → o ≡ Some id
+pub of_branch : (o : Option Id) (id : Id) → branch_is o id ≡ true → o ≡ Some id
 of_branch None id e = absurd (cc)
 of_branch (Some b) id e = ap Some (id_same b id e)
 
@@ -30,7 +30,7 @@ none_is : (o : Option Id) → no_branch o ≡ true → o ≡ None
 none_is None e = refl
 none_is (Some b) e = absurd (cc)
 
-version_same : (v w : Version) → v.branch ≡ w.branch → v.timestamp ≡ w.timestamp → v ≡ w
+pub version_same : (v w : Version) → v.branch ≡ w.branch → v.timestamp ≡ w.timestamp → v ≡ w
 version_same v w e d = λ i. record { branch = e i; timestamp = d i }
 
 pub zero_is : (x : Version) → is_zero x ≡ true → x ≡ zero
@@ -99,11 +99,11 @@ pub on_zero : (bs : Branches) (h : ℕ) (k : List ℕ) (x : Version) → is_on b
 on_zero [] h k x = refl
 on_zero (b ∷ bs) h k x = on_zero bs h k x
 
-knows_more : (b : Id × BranchBirth) (bs : Branches) (o : Option Id) → knows_branch bs o ≡ true → knows_branch (b ∷ bs) o ≡ true
+pub knows_more : (b : Id × BranchBirth) (bs : Branches) (o : Option Id) → knows_branch bs o ≡ true → knows_branch (b ∷ bs) o ≡ true
 knows_more b bs None e = refl
 knows_more b bs (Some id) e = elim (id_eq b.0 id) as (λ c. cond c true (knows bs id) ≡ true) [ true ↦ refl | false ↦ e ]
 
-knows_own : (b : Id × BranchBirth) (bs : Branches) (o : Option Id) → branch_is o b.0 ≡ true → knows_branch (b ∷ bs) o ≡ true
+pub knows_own : (b : Id × BranchBirth) (bs : Branches) (o : Option Id) → branch_is o b.0 ≡ true → knows_branch (b ∷ bs) o ≡ true
 knows_own b bs o e = subst (λ x. knows_branch (b ∷ bs) x ≡ true) (sym (of_branch o b.0 e)) (ap (λ c. cond c true (knows bs b.0)) (id_self b.0))
 
 pub known_on : (bs : Branches) (h : ℕ) (k : List ℕ) (v x : Version) → is_on bs h k v x ≡ true → knows_branch bs x.branch ≡ true
@@ -117,7 +117,7 @@ known_on (b ∷ bs) h k v x e =
     ]
 
 -- a version of an older branch is not of a new one
-not_new : (b : Id × BranchBirth) (bs : Branches) (o : Option Id) → knows bs b.0 ≡ false → knows_branch bs o ≡ true → branch_is o b.0 ≡ false
+pub not_new : (b : Id × BranchBirth) (bs : Branches) (o : Option Id) → knows bs b.0 ≡ false → knows_branch bs o ≡ true → branch_is o b.0 ≡ false
 not_new b bs o n e =
     elim (cases_Bool (branch_is o b.0)) [
       | inl t ↦ absurd (both_ways _ n (subst (λ x. knows_branch bs x ≡ true) (of_branch o b.0 t) e))
@@ -131,7 +131,7 @@ pub path_stays : (b : Id × BranchBirth) (bs : Branches) (h : ℕ) (k : List ℕ
 path_stays b bs h k v x i e = other_is b bs h k v x (not_new b bs v.branch i.0 e)
 
 -- on an older path the new branch does not matter
-lower : (b : Id × BranchBirth) (bs : Branches) (h : ℕ) (k : List ℕ) (v x y : Version) → IsHistory (b ∷ bs) → is_on bs h k v x ≡ true → is_on (b ∷ bs) h k x y ≡ true → is_on bs h k x y ≡ true
+pub lower : (b : Id × BranchBirth) (bs : Branches) (h : ℕ) (k : List ℕ) (v x y : Version) → IsHistory (b ∷ bs) → is_on bs h k v x ≡ true → is_on (b ∷ bs) h k x y ≡ true → is_on bs h k x y ≡ true
 lower b bs h k v x y i o e = sym (other_is b bs h k x y (older_not_new b bs h k v x i o)) ∙ e
 
 pub raise : (b : Id × BranchBirth) (bs : Branches) (h : ℕ) (k : List ℕ) (v x y : Version) → IsHistory (b ∷ bs) → is_on bs h k v x ≡ true → is_on bs h k x y ≡ true → is_on (b ∷ bs) h k x y ≡ true

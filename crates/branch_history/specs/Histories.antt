@@ -1,11 +1,12 @@
 -- What clients see of a history.
-use Rattle.std.specs.Prelude.{◌≡◌, ℕ, Bool, true, false, List, [], ◌∷◌, Option, Some, None, if◌then◌else◌}
+use Rattle.std.specs.Prelude.{◌≡◌, ℕ, ◌≤◌, Bool, true, false, List, [], ◌∷◌, Option, Some, None, if◌then◌else◌}
 use Rattle.std.specs.List.{AllByRecursion, list_all}
 use Rattle.region_map.specs.declared.id.Id.{Id}
 use Rattle.region_map.specs.declared.region.Region.{Region}
+use Rattle.region_map.specs.Regions.{in_region}
 use Rattle.branch_history.specs.declared.version.Version.{Version}
 use Rattle.branch_history.specs.declared.history.BranchBirth.{BranchBirth}
-use Rattle.branch_history.specs.Paths.{Branches, id_eq}
+use Rattle.branch_history.specs.Paths.{Branches, id_eq, origin_at, is_on}
 
 -- the birth of a branch
 abbrev pub birth_of : Branches → Id → Option BranchBirth
@@ -37,3 +38,13 @@ hashes_of (b ∷ bs) = b.1.origin.hashes
 abbrev pub IsHistory : Branches → Type 0
 IsHistory [] = Unit {0}
 IsHistory (b ∷ bs) = (knows bs b.0 ≡ false) × (knows_origins bs b.1.origin.pieces ≡ true) × HasHashes bs b.1.origin.hashes × IsHistory bs
+
+-- the version that a branch starts from at a pair is a point of a path, and no later than the initial timestamp
+pub record StartsInTime (bs : Branches) (h : ℕ) (k : List ℕ) (birth : BranchBirth) : Type 0 where
+  pub on : is_on bs h k (origin_at birth h k) (origin_at birth h k) ≡ true
+  pub before : (origin_at birth h k).timestamp ≤ birth.initial
+
+-- each branch that has the pair starts so, in the history before it
+abbrev pub IsInTime : Branches → ℕ → List ℕ → Type 0
+IsInTime [] h k = Unit {0}
+IsInTime (b ∷ bs) h k = (in_region b.1.region h k ≡ true → StartsInTime bs h k b.1) × IsInTime bs h k

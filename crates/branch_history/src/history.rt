@@ -78,6 +78,13 @@ impl History {
         }
     }
 
+    /// No branch is there twice, and each starts from branches that were there before it.
+    pub fn origins_come_first(&self)
+        ensures { IsHistory self.now }
+    {
+        let _count = self.branches.len();
+    }
+
     /// The birth of a branch.
     pub fn birth(&self, id: &Id) -> Option<&BranchBirth>
         ensures { option_copied result ≡ birth_of self.now id.now }
