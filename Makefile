@@ -1,6 +1,6 @@
 # make play SCRIPT=examples/first-write.jsonl   plays a script and prints its report
 # make test                                     the gate: every proof, must-fail edit, test and program, and the examples
-# make bench                                    what an event costs as the journal grows
+# make bench                                    what an event costs as the journal grows, and a piece of a region map
 
 SCRIPT ?= examples/first-write.jsonl
 PROGRAM := crates/table_play/out/bin/table_play
@@ -15,3 +15,4 @@ test:
 
 bench:
 	@tools/bench
+	@tools/bench-regions
