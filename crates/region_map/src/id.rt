@@ -17,6 +17,10 @@ pub struct Id {
 }
 
 impl fmt::Display for Id {
+    ghost use Rattle.std.specs.Prelude.{Some, ◌++◌, codes, decimal};
+
+    ghost output = { λ id. Some (decimal id.node.0 ++ codes "." ++ decimal id.life ++ codes "." ++ decimal id.counter) };
+
     fn fmt<W: fmt::Write>(&self, f: &mut fmt::Formatter<W>) -> fmt::Result {
         write!(f, "{}.{}.{}", self.node.0, self.life, self.counter)
     }

@@ -1,5 +1,5 @@
 //! Maps from keys to values, cut by regions.
-ghost use Rattle.std.specs.Prelude.{◌≡◌, ℕ, ◌<◌, ◌≤◌, ◌&&◌, List, nat_lt, Option, Some, None, IfOk, OnOk, if◌then◌else◌};
+ghost use Rattle.std.specs.Prelude.{◌≡◌, ℕ, ◌<◌, ◌≤◌, ◌&&◌, List, nat_lt, Option, Some, None, IfOk, OnOk, OnErr, if◌then◌else◌};
 ghost use Rattle.std.specs.Option.{is_some, option_copied};
 ghost use Rattle.region_map.specs.Keys.{hash_of};
 ghost use Rattle.region_map.specs.Regions.{in_region, is_open};
@@ -266,11 +266,13 @@ impl<V: MapValue, W: MapValue> Combine<V, W, (V, W)> for Paired {
 }
 
 impl<V: MapValue> RegionMap<V> {
-    /// Gives the pairs of the part that lie in the domain this value. The others keep theirs.
+    /// Gives the pairs of the part that lie in the domain this value. The others keep theirs. Where there is no
+    /// memory, all keep theirs.
     pub fn set(&mut self, alloc: Global, part: &Region, value: V) -> Result<(), OutOfMemory>
         ensures hashes { OnOk result (self.new.hashes ≡ self.old.hashes) }
         ensures at { OnOk result ((h : ℕ) (k : List ℕ) → value_at self.new.pieces h k
             ≡ (if in_region part.now h k && is_some (value_at self.old.pieces h k) then Some value else value_at self.old.pieces h k)) }
+        ensures err { OnErr result (self.new ≡ self.old) }
     {
         let other = RegionMap::constant(alloc, part.copy(alloc)?, self.hashes(), value)?;
         let new = self.zip(alloc, &other, &Overlaid)?;
