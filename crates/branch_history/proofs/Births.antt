@@ -1,5 +1,5 @@
 -- The path of a version by the birth of its branch alone, wherever that stands in the history.
-use Rattle.std.proofs.Common.{◌≡◌, ℕ, ◌≤◌, ◌<◌, Bool, true, false, cond, ◌&&◌, nat_le, List, [], ◌∷◌, Option, Some, None, inl, inr, refl, sym, ap, ◌∙◌, subst, arith}
+use Rattle.std.proofs.Common.{◌≡◌, ℕ, Bool, true, false, cond, ◌&&◌, nat_le, List, [], ◌∷◌, Option, Some, None, inl, inr, refl, sym, ap, ◌∙◌, subst}
 use Rattle.std.proofs.lemmas.Bool.{cases_Bool, both_ways, and_parts}
 use Rattle.region_map.specs.declared.id.Id.{Id}
 use Rattle.region_map.specs.declared.region.Region.{Region}
@@ -8,8 +8,8 @@ use Rattle.region_map.specs.Maps.{value_at}
 use Rattle.branch_history.specs.declared.version.Version.{Version}
 use Rattle.branch_history.specs.declared.history.BranchBirth.{BranchBirth}
 use Rattle.branch_history.specs.Paths.{Branches, id_eq, branch_is, is_branch, is_zero, or_zero, origin_at, is_on}
-use Rattle.branch_history.specs.Histories.{knows, knows_branch, knows_origins, birth_of, IsHistory}
-use Rattle.branch_history.proofs.PathLaws.{id_same, id_self, of_branch, other_is, inside_is, outside_is, knows_more, knows_own, path_stays}
+use Rattle.branch_history.specs.Histories.{knows_branch, knows_origins, birth_of, IsHistory}
+use Rattle.branch_history.proofs.PathLaws.{id_same, id_self, other_is, inside_is, outside_is, knows_more, knows_own, path_stays}
 
 -- ---- versions without a known branch
 

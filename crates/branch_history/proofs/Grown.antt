@@ -1,11 +1,11 @@
 -- Branches that are added change no path and no common ancestor that was there.
-use Rattle.std.proofs.Common.{◌≡◌, ℕ, Bool, true, false, cond, nat_le, min, List, [], ◌∷◌, ◌++◌, Option, Some, inl, inr, refl, sym, ap, ◌∙◌, subst}
+use Rattle.std.proofs.Common.{◌≡◌, ℕ, true, false, cond, nat_le, min, List, [], ◌∷◌, ◌++◌, Option, Some, inl, inr, refl, sym, ap, ◌∙◌, subst}
 use Rattle.std.proofs.lemmas.Bool.{cases_Bool}
 use Rattle.region_map.specs.declared.id.Id.{Id}
 use Rattle.region_map.specs.Regions.{in_region}
 use Rattle.branch_history.specs.declared.version.Version.{Version}
 use Rattle.branch_history.specs.declared.history.BranchBirth.{BranchBirth}
-use Rattle.branch_history.specs.Paths.{Branches, is_branch, is_zero, zero, origin_at, is_on, ancestor}
+use Rattle.branch_history.specs.Paths.{Branches, is_branch, zero, origin_at, is_on, ancestor}
 use Rattle.branch_history.specs.Histories.{knows_branch, IsHistory}
 use Rattle.branch_history.proofs.PathLaws.{zero_is, zero_on, knows_more, not_new, path_stays}
 use Rattle.branch_history.proofs.Births.{unknown_on}

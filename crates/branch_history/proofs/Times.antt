@@ -1,11 +1,11 @@
 -- Timestamps along a path.
-use Rattle.std.proofs.Common.{◌≡◌, ℕ, ◌≤◌, ◌<◌, ◌⊎◌, ◌↔◌, Bool, true, false, cond, ◌&&◌, nat_le, List, [], ◌∷◌, Option, Some, None, inl, inr, refl, sym, ap, ◌∙◌, subst, arith}
+use Rattle.std.proofs.Common.{◌≡◌, ℕ, ◌≤◌, ◌<◌, ◌⊎◌, ◌↔◌, true, cond, ◌&&◌, nat_le, List, [], ◌∷◌, Some, inl, inr, sym, ap, ◌∙◌, subst, arith}
 use Rattle.std.proofs.lemmas.Bool.{cases_Bool, both_ways, and_parts, leb-true, cases_lt}
 use Rattle.region_map.specs.declared.id.Id.{Id}
 use Rattle.region_map.specs.Regions.{in_region}
 use Rattle.branch_history.specs.declared.version.Version.{Version}
 use Rattle.branch_history.specs.declared.history.BranchBirth.{BranchBirth}
-use Rattle.branch_history.specs.Paths.{Branches, id_eq, is_branch, is_zero, zero, origin_at, is_on}
+use Rattle.branch_history.specs.Paths.{Branches, id_eq, is_branch, is_zero, origin_at, is_on}
 use Rattle.branch_history.specs.Histories.{birth_of, IsHistory, IsInTime, StartsInTime}
 use Rattle.branch_history.proofs.PathLaws.{Other, Own, Older, Outside, part, lower, version_same, of_branch, zero_is, on_zero, on_self, on_antisym, on_forward, path_stays}
 use Rattle.branch_history.proofs.Births.{first_birth, later_birth, inside_birth, outside_birth, birth_known, origin_known}

@@ -92,6 +92,22 @@ fn a_path_forks_at_the_initial_timestamp(rt: HostRuntime) -> Result<(), Fail> {
 }
 
 #[test]
+fn a_branch_has_no_path_outside_its_region(rt: HostRuntime) -> Result<(), Fail> {
+    let alloc = rt.alloc();
+    let mut history = history(alloc)?;
+    let k = Key::new(Vec::from_slice(alloc, b"k")?)?;
+    let m = Key::new(Vec::from_slice(alloc, b"m")?)?;
+    let mut upper = birth(alloc, 4, at(1, 4))?;
+    upper.region.from = Some(m.copy(alloc)?);
+    history.add(id(4), upper)?;
+    assert!(rt; history.path_has(&at(4, 5), &m, &at(1, 2)));
+    assert!(rt; !history.path_has(&at(4, 5), &k, &at(1, 2)));
+    assert!(rt; !history.path_has(&at(4, 5), &k, &at(4, 5)));
+    assert!(rt; history.path_has(&at(4, 5), &k, &Version::zero()));
+    Ok(())
+}
+
+#[test]
 fn a_branch_is_added_once_and_behind_its_origins(rt: HostRuntime) -> Result<(), Fail> {
     let alloc = rt.alloc();
     let mut history = history(alloc)?;
