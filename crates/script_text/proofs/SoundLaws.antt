@@ -10,10 +10,10 @@ use Rattle.script_text.specs.Script.{ScriptState, is_again}
 use Rattle.script_text.specs.declared.script.ScriptWord.TheVariants.{Request, GiveUp, Deliver, Lose, Flush}
 use Rattle.register_laws.specs.declared.operation.OpId.{OpId}
 use Rattle.register_laws.specs.declared.operation.Op.{Op}
-use Rattle.register_laws.specs.declared.operation.Op.TheVariants.{Put, Delete, Read}
+use Rattle.register_laws.specs.declared.operation.Op.TheVariants.{Put, Delete, Cas, Read}
 use Rattle.region_map.specs.declared.id.NodeId.{NodeId}
 use Rattle.region_map.specs.Nodes.{node_id}
-use Rattle.script_text.specs.Grammar.{◌>>=◌, kept_if, number_in, op_in, node_in, key_in, value_in, setup_of, put_of, delete_of, read_of, giveup_of, deliver_of, lose_of, flush_of, word_named, text_in}
+use Rattle.script_text.specs.Grammar.{◌>>=◌, kept_if, number_in, op_in, node_in, key_in, value_in, value_or_null_in, setup_of, put_of, delete_of, read_of, cas_of, giveup_of, deliver_of, lose_of, flush_of, word_named, text_in}
 use Rattle.script_text.specs.Lines.{Reading, ScriptRead, Accepted, at_first, said, is_blank, line_data, lines, take_line, take_data, take_named, take_setup, take_word, unless_refused, read_from, read_lines}
 use Rattle.script_text.specs.Sound.{fits_table, are_new, IsSound}
 
@@ -56,6 +56,19 @@ module _ (setup : SetupState) where
       let h = kept_is test (Request o n k what) word is in
       subst (λ w. fits_table setup w ≡ true) h.1 (fits n refl)
 
+  cas_with : (op : Option OpId) (node : Option NodeId) (key : Option (List ℕ)) (expect put : Option (Option (List ℕ))) (test : Bool) (word : ScriptWord)
+      → ((n : NodeId) → node ≡ Some n → nat_lt n.0 setup.nodes ≡ true)
+      → (op >>= λ o. node >>= λ n. key >>= λ k. expect >>= λ e. put >>= λ p. kept_if test (Request o n k (Cas e p))) ≡ Some word
+      → fits_table setup word ≡ true
+  cas_with None at key expect put test word fits is = cc
+  cas_with (Some o) None key expect put test word fits is = cc
+  cas_with (Some o) (Some n) None expect put test word fits is = cc
+  cas_with (Some o) (Some n) (Some k) None put test word fits is = cc
+  cas_with (Some o) (Some n) (Some k) (Some e) None test word fits is = cc
+  cas_with (Some o) (Some n) (Some k) (Some e) (Some p) test word fits is =
+      let h = kept_is test (Request o n k (Cas e p)) word is in
+      subst (λ w. fits_table setup w ≡ true) h.1 (fits n refl)
+
   giveup_with : (node : Option NodeId) (op : Option OpId) (test : Bool) (word : ScriptWord)
       → ((n : NodeId) → node ≡ Some n → nat_lt n.0 setup.nodes ≡ true)
       → (node >>= λ n. op >>= λ o. kept_if test (GiveUp n o)) ≡ Some word
@@ -84,6 +97,9 @@ module _ (setup : SetupState) where
   read-fits : (line : Data) (word : ScriptWord) → read_of setup line ≡ Some word → fits_table setup word ≡ true
   read-fits line word is = request_of Read (op_in (codes "op") line) (node_in setup line) (key_in line) _ word (node_in-fits setup line) is
 
+  cas-fits : (line : Data) (word : ScriptWord) → cas_of setup line ≡ Some word → fits_table setup word ≡ true
+  cas-fits line word is = cas_with (op_in (codes "op") line) (node_in setup line) (key_in line) (value_or_null_in (codes "expect") line) (value_or_null_in (codes "value") line) _ word (node_in-fits setup line) is
+
   giveup-fits : (line : Data) (word : ScriptWord) → giveup_of setup line ≡ Some word → fits_table setup word ≡ true
   giveup-fits line word is = giveup_with (node_in setup line) (op_in (codes "for") line) _ word (node_in-fits setup line) is
 
@@ -101,10 +117,11 @@ module _ (setup : SetupState) where
       choose (bytes_eq name (codes "put")) (put_of setup line) _ word P (put-fits line word) (
       choose (bytes_eq name (codes "delete")) (delete_of setup line) _ word P (delete-fits line word) (
       choose (bytes_eq name (codes "read")) (read_of setup line) _ word P (read-fits line word) (
+      choose (bytes_eq name (codes "cas")) (cas_of setup line) _ word P (cas-fits line word) (
       choose (bytes_eq name (codes "giveup")) (giveup_of setup line) _ word P (giveup-fits line word) (
       choose (bytes_eq name (codes "deliver")) (deliver_of line) _ word P (message_of Deliver (number_in (codes "message") line) _ word (λ n. refl)) (
       choose (bytes_eq name (codes "lose")) (lose_of line) _ word P (message_of Lose (number_in (codes "message") line) _ word (λ n. refl)) (
-      choose (bytes_eq name (codes "flush")) (flush_of line) None word P (flush_with _ word) (λ is. cc)))))))
+      choose (bytes_eq name (codes "flush")) (flush_of line) None word P (flush_with _ word) (λ is. cc))))))))
 
 -- ---- what the lines so far said is sound
 

@@ -4,21 +4,23 @@
 --     setup           nodes                   hash (8)
 --     put             op, node, key, value
 --     delete, read    op, node, key
+--     cas             op, node, key, expect, value
 --     giveup          node, for
 --     deliver, lose   message
 --     flush
 --
 -- No other member may stand. Numbers are whole, without sign and below 2^64. Keys and values are texts and mean their
--- UTF-8 bytes. A member of an object is found in an object alone, so a line that is none has no word.
-use Rattle.std.specs.Prelude.{ℕ, Bool, true, false, ◌&&◌, nat_lt, nat_le, bytes_eq, codes, List, [], ◌∷◌, length, Option, Some, None, option_map, option_and_then, if◌then◌else◌}
+-- UTF-8 bytes. In a cas `null` stands for no value: `expect` where the key is to have none, `value` to remove the key. A
+-- member of an object is found in an object alone, so a line that is none has no word.
+use Rattle.std.specs.Prelude.{ℕ, Bool, true, false, ◌&&◌, nat_lt, nat_le, bytes_eq, codes, List, [], ◌∷◌, length, Option, Some, None, is_some, option_map, option_and_then, if◌then◌else◌}
 use Rattle.std.specs.List.{list_any}
 use Rattle.serde_json.specs.Data.{Data, null, boolean, number, string, array, object, Members, no_members, member}
-use Rattle.serde_json.specs.Find.{get, as_number, as_u64, as_str}
+use Rattle.serde_json.specs.Find.{get, as_null, as_number, as_u64, as_str}
 use Rattle.region_map.specs.Keys.{is_key}
 use Rattle.region_map.specs.Nodes.{node_id}
 use Rattle.region_map.specs.declared.id.NodeId.{NodeId}
 use Rattle.register_laws.specs.declared.operation.OpId.{OpId}
-use Rattle.register_laws.specs.declared.operation.Op.TheVariants.{Put, Delete, Read}
+use Rattle.register_laws.specs.declared.operation.Op.TheVariants.{Put, Delete, Cas, Read}
 use Rattle.contract_types.specs.Setup.{SetupState, is_setup}
 use Rattle.script_text.specs.declared.script.ScriptWord.{ScriptWord}
 use Rattle.script_text.specs.declared.script.ScriptWord.TheVariants.{Request, GiveUp, Deliver, Lose, Flush}
@@ -69,6 +71,16 @@ value_in line = do
   value ← text_in (codes "value") line
   kept_if (nat_le (length value) 1024) value
 
+-- none by `null`, or a value of at most 1,024 bytes
+abbrev pub value_or_null : Data → Option (Option (List ℕ))
+value_or_null d = if is_some (as_null d) then Some None else do
+  value ← as_str d
+  kept_if (nat_le (length value) 1024) (Some value)
+
+-- the same at a name, where something stands
+abbrev pub value_or_null_in : List ℕ → Data → Option (Option (List ℕ))
+value_or_null_in name line = option_and_then value_or_null (get name line)
+
 -- each member of the object has one of these names
 abbrev pub are_named : List (List ℕ) → Members → Bool
 are_named names no_members = true
@@ -112,6 +124,15 @@ read_of setup line = do
   key ← key_in line
   kept_if (has_only (codes "do" ∷ codes "op" ∷ codes "node" ∷ codes "key" ∷ []) line) (Request op node key Read)
 
+abbrev pub cas_of : SetupState → Data → Option ScriptWord
+cas_of setup line = do
+  op ← op_in (codes "op") line
+  node ← node_in setup line
+  key ← key_in line
+  expect ← value_or_null_in (codes "expect") line
+  put ← value_or_null_in (codes "value") line
+  kept_if (has_only (codes "do" ∷ codes "op" ∷ codes "node" ∷ codes "key" ∷ codes "expect" ∷ codes "value" ∷ []) line) (Request op node key (Cas expect put))
+
 abbrev pub giveup_of : SetupState → Data → Option ScriptWord
 giveup_of setup line = do
   node ← node_in setup line
@@ -137,6 +158,7 @@ word_named setup name line =
     if bytes_eq name (codes "put") then put_of setup line else
     if bytes_eq name (codes "delete") then delete_of setup line else
     if bytes_eq name (codes "read") then read_of setup line else
+    if bytes_eq name (codes "cas") then cas_of setup line else
     if bytes_eq name (codes "giveup") then giveup_of setup line else
     if bytes_eq name (codes "deliver") then deliver_of line else
     if bytes_eq name (codes "lose") then lose_of line else

@@ -1,5 +1,8 @@
 //! Worked scripts.
-use crate::{Reason, ScriptRefused, ScriptWord, Status, read_script};
+use crate::lines::read_line;
+use crate::words::word_named;
+use crate::{Reason, ScriptRefused, ScriptWord, Setup, Status, read_script};
+use register_laws::{Op, Value};
 use std::alloc::Global;
 use std::test::Fail;
 
@@ -147,5 +150,55 @@ fn keeps_lengths_and_numbers(rt: HostRuntime) -> Result<(), Fail> {
     let reason = Reason::NotBuilt;
     assert!(rt; reason.text() == "not_built");
     assert_eq!(rt; Status::Script { line: 1, reason }.number(), 3);
+    Ok(())
+}
+
+/// What a line asks of a table of two nodes as a cas; no program plays one yet.
+fn cas(alloc: Global, members: &str) -> Result<Option<Op>, Fail> {
+    let line = format!(in alloc; "{{\"do\":\"cas\",\"op\":1,\"node\":1,\"key\":\"a\"{members}}}")?;
+    let Some(line) = read_line(alloc, line.as_bytes())? else {
+        return Ok(None);
+    };
+    match word_named(alloc, Setup::new(2, 8), "cas", &line) {
+        Ok(ScriptWord::Request { what, .. }) => Ok(Some(what)),
+        _ => Ok(None),
+    }
+}
+
+fn value(alloc: Global, text: &str) -> Result<Option<Value>, Fail> {
+    let bytes = Vec::from_slice(alloc, text.as_bytes())?;
+    Ok(Some(Value::new(bytes)?))
+}
+
+#[test]
+fn null_is_no_value_in_a_cas(rt: HostRuntime) -> Result<(), Fail> {
+    let alloc = rt.alloc();
+    let first = cas(alloc, ",\"expect\":null,\"value\":\"x\"")?;
+    assert_eq!(rt;
+        first,
+        Some(Op::Cas {
+            expect: None,
+            put: value(alloc, "x")?
+        })
+    );
+    let last = cas(alloc, ",\"value\":null,\"expect\":\"\"")?;
+    assert_eq!(rt;
+        last,
+        Some(Op::Cas {
+            expect: value(alloc, "")?,
+            put: None
+        })
+    );
+    let refused: [&str; 6] = [
+        ",\"value\":\"x\"",
+        ",\"expect\":\"x\"",
+        ",\"expect\":1,\"value\":null",
+        ",\"expect\":null,\"value\":[]",
+        ",\"expect\":null,\"value\":null,\"after\":1",
+        ",\"expect\":null,\"value\":null,\"node\":2",
+    ];
+    for members in refused {
+        assert!(rt; cas(alloc, members)?.is_none(), "{members}");
+    }
     Ok(())
 }

@@ -1,6 +1,6 @@
 //! The words of a script, each with its members.
 ghost use Rattle.std.specs.Prelude.{◌≡◌, IfOk};
-ghost use Rattle.script_text.specs.Grammar.{setup_of, put_of, delete_of, read_of, giveup_of, deliver_of, lose_of, flush_of, word_named, key_in, value_in};
+ghost use Rattle.script_text.specs.Grammar.{setup_of, put_of, delete_of, read_of, cas_of, giveup_of, deliver_of, lose_of, flush_of, word_named, key_in, value_in, value_or_null, value_or_null_in};
 ghost use Rattle.script_text.specs.LineReads.{IsReadAs};
 ghost use Rattle.serde_json.specs.View.{view};
 
@@ -53,6 +53,33 @@ fn value_in(alloc: Global, line: &Value) -> Result<RegisterValue, LineRefused>
     }
 }
 
+/// The value that a member tells: none by `null`.
+fn value_or_null(alloc: Global, member: &Value) -> Result<Option<RegisterValue>, LineRefused>
+    ensures { IsReadAs result (value_or_null (view member.now)) }
+{
+    if member.is_null() {
+        return Ok(None);
+    }
+    let text = member.as_str().ok_or(Reason::NotBuilt)?;
+    let bytes = Vec::from_slice(alloc, text.as_bytes())?;
+    match RegisterValue::new(bytes) {
+        Ok(value) => Ok(Some(value)),
+        Err(_length) => Err(LineRefused::Reason(Reason::NotBuilt)),
+    }
+}
+
+/// The value at a name: none by `null`, but not by a missing member.
+fn value_or_null_in(
+    alloc: Global,
+    name: &str,
+    line: &Value,
+) -> Result<Option<RegisterValue>, LineRefused>
+    ensures { IsReadAs result (value_or_null_in name.now (view line.now)) }
+{
+    let member = line.get(name).ok_or(Reason::NotBuilt)?;
+    value_or_null(alloc, member)
+}
+
 /// `put`: a request that sets a key.
 fn put_of(alloc: Global, setup: Setup, line: &Value) -> Result<ScriptWord, LineRefused>
     ensures { IsReadAs result (put_of setup (view line.now)) }
@@ -103,6 +130,27 @@ fn read_of(alloc: Global, setup: Setup, line: &Value) -> Result<ScriptWord, Line
         return Err(LineRefused::Reason(Reason::NotBuilt));
     }
     let what = Op::Read;
+    Ok(ScriptWord::Request {
+        op,
+        node,
+        key,
+        what,
+    })
+}
+
+/// `cas`: a request that sets or removes a key where it has the value that is expected.
+fn cas_of(alloc: Global, setup: Setup, line: &Value) -> Result<ScriptWord, LineRefused>
+    ensures { IsReadAs result (cas_of setup (view line.now)) }
+{
+    let op = op_in("op", line).ok_or(Reason::NotBuilt)?;
+    let node = node_in(setup, line).ok_or(Reason::NotBuilt)?;
+    let key = key_in(alloc, line)?;
+    let expect = value_or_null_in(alloc, "expect", line)?;
+    let put = value_or_null_in(alloc, "value", line)?;
+    if !has_only(&["do", "op", "node", "key", "expect", "value"], line) {
+        return Err(LineRefused::Reason(Reason::NotBuilt));
+    }
+    let what = Op::Cas { expect, put };
     Ok(ScriptWord::Request {
         op,
         node,
@@ -172,6 +220,9 @@ pub(crate) fn word_named(
     }
     if name == "read" {
         return read_of(alloc, setup, line);
+    }
+    if name == "cas" {
+        return cas_of(alloc, setup, line);
     }
     if name == "giveup" {
         return Ok(giveup_of(setup, line).ok_or(Reason::NotBuilt)?);
