@@ -6,7 +6,7 @@
 #![tactic(auto)]
 
 pub use commit::decided;
-pub use merge::{Answer, agrees_to_view, take_entries};
+pub use merge::{Answer, agrees_to_view, fits, take_entries};
 pub use peers::{Peers, Progress};
 
 pub mod commit;

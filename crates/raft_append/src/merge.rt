@@ -59,7 +59,7 @@ pub fn agrees_to_view<E>(log: &Log<E>, view: u64, prev_index: u64, entries: &Log
 }
 
 /// Whether there is an entry of this term at the index. Index 0 always fits.
-fn fits<E>(log: &Log<E>, index: u64, term: u64) -> bool
+pub fn fits<E>(log: &Log<E>, index: u64, term: u64) -> bool
     ensures fits { result ≡ fits log.now index term }
     ensures within { IsTrue result → index ≤ length log.now }
     ensures small { IsTrue result → index < 2 ^ 63 }

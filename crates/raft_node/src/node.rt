@@ -12,7 +12,7 @@ ghost use Rattle.raft_node.specs.declared.input.RaftInput.TheVariants.{Tick, Del
 use crate::input::RaftInput;
 use crate::kept::RaftKept;
 use memory::OutOfMemory;
-use raft_append::{Peers, agrees_to_view, decided, take_entries};
+use raft_append::{Peers, agrees_to_view, decided, fits, take_entries};
 use raft_vote::{Log, LogEntry, RaftEntry, RaftMessage, VoteNode, asks};
 use region_map::{NUMBERS_END, NodeId, NodeSet, StepRefused};
 use std::alloc::Global;
@@ -84,7 +84,7 @@ impl<E: RaftEntry> RaftNode<E> {
     pub fn copy(&self, alloc: Global) -> Result<RaftNode<E>, OutOfMemory>
         ensures { IfOk result (λ node. node ≡ self.now) }
     {
-        let (votes, view) = (self.votes.clone()?, self.view);
+        let (votes, view) = (self.votes.copy(), self.view);
         let log = self.log.copy(alloc)?;
         let peers = self.peers.copy(alloc)?;
         Ok(RaftNode {
@@ -177,6 +177,55 @@ impl<E: RaftEntry> RaftNode<E> {
                     || agrees_to_view(&self.log, self.view, *prev_index, entries)
             }
             _ => true,
+        }
+    }
+
+    /// Whether a tick would need a term or an index that is no number. `step` refuses just these.
+    pub fn ends_at_tick(&self, unseen: &NodeSet) -> bool
+        ensures { result ≡ ends_numbers self.now (Tick unseen.now) }
+    {
+        if self.votes.is_leader() {
+            return false;
+        }
+        let mut votes = self.votes.copy();
+        match votes.tick(unseen) {
+            Err(_) => true,
+            Ok(_) => votes.is_leader() && self.log.len() + 1 >= NUMBERS_END,
+        }
+    }
+
+    /// Whether a message would need a term or an index that is no number. `step` refuses just these.
+    pub fn ends_at(&self, from: NodeId, message: &RaftMessage<E>) -> bool
+        requires { IsTrue (is_well_formed self.now (Deliver from message.now)) }
+        ensures { result ≡ ends_numbers self.now (Deliver from message.now) }
+    {
+        let count = self.votes.nodes().len();
+        prove!(from.0 < count);
+        match message {
+            RaftMessage::VoteAsk { .. } => false,
+            RaftMessage::VoteSay { term, granted } => {
+                let mut votes = self.votes.copy();
+                votes.told(from, *term, *granted);
+                !self.votes.is_leader() && votes.is_leader() && self.log.len() + 1 >= NUMBERS_END
+            }
+            RaftMessage::Append {
+                term,
+                prev_index,
+                prev_term,
+                entries,
+                ..
+            } => {
+                *term >= self.votes.term()
+                    && fits(&self.log, *prev_index, *prev_term)
+                    && *prev_index + entries.len() >= NUMBERS_END
+            }
+            RaftMessage::AppendSay { term, ok, upto } => {
+                let mut votes = self.votes.copy();
+                votes.take_term(*term);
+                votes.is_leader()
+                    && votes.term() == *term
+                    && self.peers.get(from).after(self.log.len(), *ok, *upto).is_err()
+            }
         }
     }
 

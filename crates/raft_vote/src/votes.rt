@@ -56,6 +56,20 @@ impl VoteNode {
         }
     }
 
+    /// The same node again. It takes no memory.
+    pub fn copy(&self) -> VoteNode
+        ensures { result ≡ self.now }
+    {
+        VoteNode {
+            me: self.me,
+            nodes: self.nodes,
+            term: self.term,
+            vote: self.vote,
+            role: self.role,
+            leader: self.leader,
+        }
+    }
+
     pub fn me(&self) -> NodeId
         ensures { result ≡ self.now.me }
     {

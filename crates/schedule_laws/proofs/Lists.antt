@@ -1,6 +1,6 @@
--- What holds of each of a list, as of every message that was ever sent.
-use Rattle.std.proofs.Common.{◌≡◌, ℕ, zero, suc, List, [], ◌∷◌, ◌++◌, map, Some, slice_get, subst}
-use Rattle.std.specs.List.{AllByRecursion}
+-- What holds of each of a list, as of every message that was ever sent, and which place some of them have among their kind.
+use Rattle.std.proofs.Common.{◌≡◌, ℕ, zero, suc, List, [], ◌∷◌, ◌++◌, length, take, map, Option, Some, None, slice_get, subst}
+use Rattle.std.specs.List.{AllByRecursion, filter_map, cons_option}
 
 pub All-append : {X : Type 0} (P : X → Type 0) (xs ys : List X) → AllByRecursion P xs → AllByRecursion P ys → AllByRecursion P (xs ++ ys)
 All-append P [] ys h i = i
@@ -23,3 +23,14 @@ pub All-at : {X : Type 0} (P : X → Type 0) (xs : List X) (k : ℕ) (x : X) →
 All-at P [] k x h e = cc
 All-at P (y ∷ ys) zero x h e = let same : y ≡ x = cc in subst P same h.0
 All-at P (y ∷ ys) (suc k) x h e = All-at P ys k x h.1 e
+
+pub place_among : {X Y : Type 0} (kind : X → Option Y) (xs : List X) (place : ℕ) (x : X) (y : Y) → slice_get xs place ≡ Some x → kind x ≡ Some y
+    → slice_get (filter_map kind xs) (length (filter_map kind (take place xs))) ≡ Some y
+place_among kind [] place x y at is = absurd (cc at)
+place_among kind (z ∷ zs) zero x y at is = let same : z ≡ x = cc in rw (same, is)
+place_among kind (z ∷ zs) (suc k) x y at is =
+    let rest = place_among kind zs k x y at is in
+    elim (kind z) as (λ o. slice_get (cons_option o (filter_map kind zs)) (length (cons_option o (filter_map kind (take k zs)))) ≡ Some y) [
+      | None ↦ rest
+      | Some w ↦ rest
+    ]
