@@ -89,14 +89,14 @@ module _ {E : Type 0} (nodes : ℕ) (noop : E) where
       (λ e. cond_both (w.up n) (acts nodes noop w n x.1) (rests nodes w n x.1) FromNodes (λ _. from_acts w n x.1 (ltb-true n nodes e) h) (λ _. from_rests w n x.1 h))
       (λ _. h)
 
-  from_message : (sent : List (Sent E)) (n place : ℕ) (m : Sent E) (o : Option (Sent E)) → slice_get sent place ≡ o → addressed n o ≡ Some m → slice_get sent place ≡ Some m
-  from_message sent n place m None e f = absurd (cc f)
-  from_message sent n place m (Some x) e f =
+  pub message_is : (sent : List (Sent E)) (n place : ℕ) (m : Sent E) (o : Option (Sent E)) → slice_get sent place ≡ o → addressed n o ≡ Some m → slice_get sent place ≡ Some m
+  message_is sent n place m None e f = absurd (cc f)
+  message_is sent n place m (Some x) e f =
       cond_both (x.to.0 == n) (Some x) None (λ (v : Option (Sent E)). v ≡ Some m → slice_get sent place ≡ Some m) (λ _ is. e ∙ is) (λ _ is. absurd (cc is)) f
 
   from_number : (w : World E) (n number : ℕ) (m : Sent E) → FromNodes w → message_to w.sent n number ≡ Some m → m.from.0 < nodes
   from_number w n zero m h e = absurd (cc e)
-  from_number w n (suc place) m h e = All-at (λ (x : Sent E). x.from.0 < nodes) w.sent place m h (from_message w.sent n place m (slice_get w.sent place) refl e)
+  from_number w n (suc place) m h e = All-at (λ (x : Sent E). x.from.0 < nodes) w.sent place m h (message_is w.sent n place m (slice_get w.sent place) refl e)
 
   pub sender_is : (events : List (NodeId × RaftEvent E)) (i n number : ℕ) (m : Sent E) → message_to (moment nodes noop events i).sent n number ≡ Some m → m.from.0 < nodes
   sender_is events i n number m e =

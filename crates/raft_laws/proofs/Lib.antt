@@ -14,3 +14,5 @@ pub mod Fitting
 pub mod Moments
 pub mod Lasting
 pub mod Nets
+pub mod Parts
+pub mod Sources

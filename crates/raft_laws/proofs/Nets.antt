@@ -120,17 +120,10 @@ module _ {E : Type 0} (noop : E) (nodes : ℕ) where
 
 -- what a node acts on, as it is read from the lists
 pub committed_agrees : {E : Type 0} (noop : E) (nodes : ℕ) (states : List (RaftState E)) (up : List Bool) (sent : List (Sent E)) → IsReached noop nodes states up sent → (v : RaftNet E) → record { nodes = nodes; states = states; ups = up; sent = sent } ≡ v
-    → (n : ℕ) → n < v.nodes → (s : RaftState E) → s ≡ get_or states n s → (view : ℕ) → view ≡ s.view → (log : List (LogEntry E)) → log ≡ s.log
-    → (other : ℕ) → IsFrontOf (take view log) (committed (world_of v) other) ⊎ IsFrontOf (committed (world_of v) other) (take view log)
-committed_agrees {E = E} noop nodes states up sent r v e n h s at view view_is log log_is other =
-    let count : nodes ≡ v.nodes = ap (λ (x : RaftNet E). x.nodes) e in
-    let length_is = r.states_are in
-    let within : n < length states = omega (arith, h, count, length_is) in
-    let state : s ≡ node_in nodes states n = at ∙ get_or_default states n s (node_in nodes [] n) within in
-    let own : committed (world_in nodes states up sent) n ≡ take view log =
-    ap (λ (x : RaftState E). take x.view x.log) (sym state) ∙ ap (λ k. take k s.log) (sym view_is) ∙ ap (take view) (sym log_is) in
-    subst (λ (x : RaftNet E). IsFrontOf (take view log) (committed (world_of x) other) ⊎ IsFrontOf (committed (world_of x) other) (take view log)) e
-    (subst (λ (xs : List (LogEntry E)). IsFrontOf xs (committed (world_in nodes states up sent) other) ⊎ IsFrontOf (committed (world_in nodes states up sent) other) xs) own
+    → (n : ℕ) (list : List (LogEntry E)) → list ≡ committed (world_in nodes states [] []) n → (other : ℕ) → IsFrontOf list (committed (world_of v) other) ⊎ IsFrontOf (committed (world_of v) other) list
+committed_agrees {E = E} noop nodes states up sent r v e n list is other =
+    subst (λ (xs : List (LogEntry E)). IsFrontOf xs (committed (world_of v) other) ⊎ IsFrontOf (committed (world_of v) other) xs) (sym is)
+    (subst (λ (x : RaftNet E). IsFrontOf (committed (world_in nodes states [] []) n) (committed (world_of x) other) ⊎ IsFrontOf (committed (world_of x) other) (committed (world_in nodes states [] []) n)) e
     (reached_agrees noop nodes states up sent r n other))
 
 -- ---- what an event does
@@ -210,7 +203,14 @@ on_ok (Err e) A B C P a b c f = tt
 pub up_read : (up : List Bool) (n : ℕ) (b : Bool) → n < length up → b ≡ get_or up n b → b ≡ true → up_in up n ≡ true
 up_read up n b h at is = get_or_default up n true b h ∙ sym at ∙ is
 
+err_same : {U F : Type 0} (e n : F) → IsErrOf {T = U} (Err e) n → e ≡ n
+err_same e n h = cc
+
 -- an error that was handed on
 pub err_given : {T U F : Type 0} (r : Result T F) (e n : F) → IsErrAnd r (λ x. x ≡ e) → IsErrOf r n → IsErrOf {T = U} (Err e) n
 err_given (Ok x) e n a h = absurd (cc h)
 err_given (Err x) e n a h = let same : x ≡ n = cc in ap Err (sym a ∙ same)
+
+pub err_handed : {T U F : Type 0} (r : Result T F) (e n : F) → IsErrAnd r (λ x. x ≡ e) → IsErrOf {T = U} (Err e) n → IsErrOf r n
+err_handed (Ok x) e n a h = absurd a
+err_handed (Err x) e n a h = ap Err a ∙ ap Err (err_same e n h)

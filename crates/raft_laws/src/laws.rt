@@ -1,6 +1,9 @@
 //! Laws of every run, each the contract of a function that does nothing.
 ghost use Rattle.std.specs.Prelude.{ℕ};
 ghost use Rattle.raft_laws.specs.Laws.{VotesLast, OneLeader, LogsMatch, LeadersComplete, NodesAgree, ViewsGrow, DeliveriesFit};
+ghost use Rattle.raft_laws.specs.World.{World};
+ghost use Rattle.raft_laws.specs.Sources.{EntriesArePut};
+ghost use Rattle.raft_laws.specs.Parts.{InRun, IsLogPart, Fits, KeepsPromises};
 
 use raft_vote::RaftEntry;
 
@@ -37,4 +40,17 @@ pub fn views_grow<E: RaftEntry>()
 /// A node may be given each message that comes to it in a run.
 pub fn deliveries_fit<E: RaftEntry>()
     ensures { (nodes : ℕ) → DeliveriesFit nodes E.noop_entry }
+{}
+
+/// Each entry of a log or a message is the one with which a leader began, or holds a change that was put to the leader
+/// of its term.
+pub fn entries_are_put<E: RaftEntry>()
+    ensures { (nodes : ℕ) → EntriesArePut nodes E.noop_entry }
+{}
+
+/// Where the log is a part of more, what holds of it over a run holds of that part: whatever else the nodes do, as long
+/// as each of their steps is, for the log, some events of the log or none.
+pub fn parts_keep_promises<E: RaftEntry>()
+    ensures fits { (nodes : ℕ) (w : World E) → InRun nodes E.noop_entry w → Fits w }
+    ensures promises { (nodes : ℕ) (part : ℕ → World E) → IsLogPart nodes E.noop_entry part → KeepsPromises part }
 {}

@@ -60,9 +60,6 @@ fn goes(
 {
     let node = NodeId(at);
     let given = world.push(alloc, node, event(step));
-    if at >= world.nodes() {
-        return false;
-    }
     given == answer && world.committed(node).len() == committed
 }
 
@@ -109,11 +106,51 @@ fn late_messages_change_nothing(rt: HostRuntime) -> Result<(), Fail> {
         (1, Step::Deliver(4), 2),
         (1, Step::Tick, 2),
         (2, Step::Deliver(16), 2),
+        (0, Step::Restart, 1),
+        (0, Step::Deliver(3), 1),
+        (0, Step::Deliver(6), 1),
+        (0, Step::Deliver(13), 1),
+        (0, Step::Deliver(15), 2),
     ];
     let mut world = RaftWorld::begin(alloc, 3)?;
     for (at, step, committed) in rows {
         assert!(rt; world.nodes() == 3 && at < 3);
         assert!(rt; goes(alloc, &mut world, at, step, Ok(()), committed));
+    }
+    Ok(())
+}
+
+/// Node 0 fills its log in its term, and fails. Node 1 has that log and leads next, without room for an entry of its own
+/// term: that a majority has the entries of the older term does not commit them.
+#[test]
+fn an_older_term_is_not_committed_by_counts(rt: HostRuntime) -> Result<(), Fail> {
+    let alloc = rt.alloc();
+    let mut world = RaftWorld::begin(alloc, 3)?;
+    for (at, step) in [
+        (0, Step::Tick),
+        (1, Step::Deliver(1)),
+        (0, Step::Deliver(3)),
+    ] {
+        assert!(rt; world.nodes() == 3 && at < 3);
+        assert!(rt; goes(alloc, &mut world, at, step, Ok(()), 0));
+    }
+    for _ in 0..127 {
+        assert!(rt; world.nodes() == 3);
+        assert!(rt; goes(alloc, &mut world, 0, Step::Propose, Ok(()), 0));
+    }
+    let rows = [
+        (0, Step::Tick),
+        (1, Step::Deliver(6)),
+        (0, Step::Crash),
+        (1, Step::Tick),
+        (2, Step::Deliver(10)),
+        (1, Step::Deliver(11)),
+        (2, Step::Deliver(13)),
+        (1, Step::Deliver(14)),
+    ];
+    for (at, step) in rows {
+        assert!(rt; world.nodes() == 3 && at < 3);
+        assert!(rt; goes(alloc, &mut world, at, step, Ok(()), 0));
     }
     Ok(())
 }

@@ -11,7 +11,7 @@ use crate::event::{RaftEvent, Sent};
 use memory::OutOfMemory;
 use raft_node::{LOG_LIMIT, RaftInput, RaftKept, RaftNode};
 use raft_vote::{Log, LogEntry, RaftEntry, RaftMessage};
-use region_map::{NodeId, StepRefused};
+use region_map::{NodeId, NodeSet, StepRefused};
 use std::alloc::{AllocError, AllocFailed, Global};
 use std::marker::Model;
 use thiserror::Error;
@@ -115,15 +115,16 @@ impl<E: RaftEntry> RaftWorld<E> {
     /// What a node acts on. Of any two of these, at this moment or at others of a run, one is a front of the other:
     /// `push` only makes them longer.
     pub fn committed(&self, node: NodeId) -> &[LogEntry<E>]
-        requires { node.0 < self.now.nodes }
         ensures committed { result.now ≡ committed (world_of self.now) node.0 }
         ensures agree { (other : ℕ) → IsFrontOf result.now (committed (world_of self.now) other) ⊎ IsFrontOf (committed (world_of self.now) other) result.now }
     {
-        let node = &self.nodes[node.0 as usize];
-        &node.log()[..node.committed() as usize]
+        acted_on(self.count, &self.nodes, node)
     }
 
     /// An event at a node.
+    ///
+    /// What it costs is bounded by what the message carries and by the node's own log, which it copies so that the
+    /// world is as it was after a refusal; it does not grow with the messages that were sent before.
     pub fn push(
         &mut self,
         alloc: Global,
@@ -134,8 +135,7 @@ impl<E: RaftEntry> RaftWorld<E> {
         ensures ok { OnOk result (GoesOn E.noop_entry self.old node event self.new) }
         ensures no_message { IsErrOf result RaftPushRefused.NoSuchMessage ↔ IsTrue (misses (world_of self.old) node.0 event) }
         ensures down { IsErrOf result RaftPushRefused.Down ↔ IsTrue (finds_down (world_of self.old) node.0 event) }
-        ensures numbers { IsErrOf result RaftPushRefused.NumbersEnd → IsTrue (finds_end (world_of self.old) node.0 event) }
-        ensures goes { OnOk result (IsFalse (finds_end (world_of self.old) node.0 event)) }
+        ensures numbers { IsErrOf result RaftPushRefused.NumbersEnd ↔ IsTrue (finds_end (world_of self.old) node.0 event) }
         ensures err { OnErr result (self.new ≡ self.old) }
         ensures longer { (n : ℕ) → IsFrontOf (committed (world_of self.old) n) (committed (world_of self.new) n) }
     {
@@ -149,6 +149,16 @@ impl<E: RaftEntry> RaftWorld<E> {
             event,
         )?;
         Ok(())
+    }
+}
+
+/// What a node acts on, and nothing where there is no such node.
+fn acted_on<E: RaftEntry>(count: u8, nodes: &Vec<RaftNode<E>>, node: NodeId) -> &[LogEntry<E>]
+    ensures { result.now ≡ committed (world_in count nodes.now.items [] []) node.0 }
+{
+    match nodes.get(node.0 as usize) {
+        None => &[],
+        Some(node) => &node.log()[..node.committed() as usize],
     }
 }
 
@@ -185,8 +195,7 @@ fn push_in<E: RaftEntry>(
     ensures ups { length up.new.items ≡ count }
     ensures no_message { IsErrOf result RaftPushRefused.NoSuchMessage ↔ IsTrue (misses (world_in count nodes.old.items up.old.items sent.old.items) node.0 event) }
     ensures down { IsErrOf result RaftPushRefused.Down ↔ IsTrue (finds_down (world_in count nodes.old.items up.old.items sent.old.items) node.0 event) }
-    ensures numbers { IsErrOf result RaftPushRefused.NumbersEnd → IsTrue (finds_end (world_in count nodes.old.items up.old.items sent.old.items) node.0 event) }
-    ensures goes { OnOk result (IsFalse (finds_end (world_in count nodes.old.items up.old.items sent.old.items) node.0 event)) }
+    ensures numbers { IsErrOf result RaftPushRefused.NumbersEnd ↔ IsTrue (finds_end (world_in count nodes.old.items up.old.items sent.old.items) node.0 event) }
     ensures err { OnErr result ((nodes.new.items ≡ nodes.old.items) × (up.new.items ≡ up.old.items) × (sent.new.items ≡ sent.old.items)) }
 {
     let i = node.0 as usize;
@@ -195,7 +204,7 @@ fn push_in<E: RaftEntry>(
             if !up[i] {
                 return Err(RaftPushRefused::Down);
             }
-            step_in(count, nodes, sent, alloc, node, RaftInput::Tick { unseen })
+            tick_in(count, nodes, sent, alloc, node, unseen)
         }
         RaftEvent::Propose(change) => {
             if !up[i] {
@@ -230,6 +239,42 @@ fn push_in<E: RaftEntry>(
             Ok(())
         }
     }
+}
+
+/// A node takes a step by a tick.
+fn tick_in<E: RaftEntry>(
+    count: u8,
+    nodes: &mut Vec<RaftNode<E>>,
+    sent: &mut Vec<Sent<E>>,
+    alloc: Global,
+    node: NodeId,
+    unseen: NodeSet,
+) -> Result<(), RaftPushRefused>
+    requires node { node.0 < length nodes.old.items }
+    ensures nodes { OnOk result (nodes.new.items ≡ slice_set nodes.old.items node.0 (raft_step E.noop_entry (node_in count nodes.old.items node.0) (InputTick unseen)).node) }
+    ensures sent { OnOk result (sent.new.items ≡ sent.old.items ++ posted node.0 (raft_step E.noop_entry (node_in count nodes.old.items node.0) (InputTick unseen)).sent) }
+    ensures goes { OnOk result (IsFalse (ends_numbers (node_in count nodes.old.items node.0) (InputTick unseen))) }
+    ensures numbers { IsErrOf result RaftPushRefused.NumbersEnd ↔ IsTrue (ends_numbers (node_in count nodes.old.items node.0) (InputTick unseen)) }
+    ensures other { OnErr result ((result ≡ Err RaftPushRefused.NumbersEnd) ⊎ (result ≡ Err RaftPushRefused.OutOfMemory)) }
+    ensures err { OnErr result ((nodes.new.items ≡ nodes.old.items) × (sent.new.items ≡ sent.old.items)) }
+{
+    if ends_at_tick(count, nodes, node, &unseen) {
+        return Err(RaftPushRefused::NumbersEnd);
+    }
+    step_in(count, nodes, sent, alloc, node, RaftInput::Tick { unseen })
+}
+
+/// Whether a tick would need a term or an index that is no number.
+fn ends_at_tick<E: RaftEntry>(
+    count: u8,
+    nodes: &Vec<RaftNode<E>>,
+    node: NodeId,
+    unseen: &NodeSet,
+) -> bool
+    requires { node.0 < length nodes.now.items }
+    ensures { result ≡ ends_numbers (node_in count nodes.now.items node.0) (InputTick unseen.now) }
+{
+    nodes[node.0 as usize].ends_at_tick(unseen)
 }
 
 /// A node takes a step, and what it sends goes into the network.
@@ -303,6 +348,47 @@ fn is_sent<E: RaftEntry>(sent: &[Sent<E>], node: NodeId, number: u64) -> bool
 
 /// A node takes a message that was sent to it.
 fn deliver_in<E: RaftEntry>(
+    count: u8,
+    nodes: &mut Vec<RaftNode<E>>,
+    sent: &mut Vec<Sent<E>>,
+    alloc: Global,
+    node: NodeId,
+    number: u64,
+) -> Result<(), RaftPushRefused>
+    requires node { node.0 < length nodes.old.items }
+    requires sent { IsFalse (is_none (message_to sent.old.items node.0 number)) }
+    requires fits { (m : _) → message_to sent.old.items node.0 number ≡ Some m → IsTrue (is_well_formed (node_in count nodes.old.items node.0) (InputDeliver m.from m.message)) }
+    ensures comes { OnOk result (Arrives E.noop_entry count nodes.old.items sent.old.items node.0 (message_to sent.old.items node.0 number) nodes.new.items sent.new.items) }
+    ensures goes { OnOk result (IsFalse (ends_message (node_in count nodes.old.items node.0) (message_to sent.old.items node.0 number))) }
+    ensures numbers { IsErrOf result RaftPushRefused.NumbersEnd ↔ IsTrue (ends_message (node_in count nodes.old.items node.0) (message_to sent.old.items node.0 number)) }
+    ensures other { OnErr result ((result ≡ Err RaftPushRefused.NumbersEnd) ⊎ (result ≡ Err RaftPushRefused.OutOfMemory)) }
+    ensures err { OnErr result ((nodes.new.items ≡ nodes.old.items) × (sent.new.items ≡ sent.old.items)) }
+{
+    if ends_at(count, nodes, sent, node, number) {
+        return Err(RaftPushRefused::NumbersEnd);
+    }
+    bring_in(count, nodes, sent, alloc, node, number)
+}
+
+/// Whether a message that was sent to a node would need a term or an index that is no number.
+fn ends_at<E: RaftEntry>(
+    count: u8,
+    nodes: &[RaftNode<E>],
+    sent: &[Sent<E>],
+    node: NodeId,
+    number: u64,
+) -> bool
+    requires node { node.0 < length nodes.now }
+    requires sent { IsFalse (is_none (message_to sent.now node.0 number)) }
+    requires fits { (m : _) → message_to sent.now node.0 number ≡ Some m → IsTrue (is_well_formed (node_in count nodes.now node.0) (InputDeliver m.from m.message)) }
+    ensures { result ≡ ends_message (node_in count nodes.now node.0) (message_to sent.now node.0 number) }
+{
+    let m = &sent[(number - 1) as usize];
+    nodes[node.0 as usize].ends_at(m.from, &m.message)
+}
+
+/// A node takes a step by a message that was sent to it.
+fn bring_in<E: RaftEntry>(
     count: u8,
     nodes: &mut Vec<RaftNode<E>>,
     sent: &mut Vec<Sent<E>>,

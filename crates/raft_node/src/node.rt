@@ -224,7 +224,11 @@ impl<E: RaftEntry> RaftNode<E> {
                 votes.take_term(*term);
                 votes.is_leader()
                     && votes.term() == *term
-                    && self.peers.get(from).after(self.log.len(), *ok, *upto).is_err()
+                    && self
+                        .peers
+                        .get(from)
+                        .after(self.log.len(), *ok, *upto)
+                        .is_err()
             }
         }
     }

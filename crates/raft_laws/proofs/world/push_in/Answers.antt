@@ -19,7 +19,7 @@ returns-else-not-index-clause-ok g c =
     let below = c.requires.node in
     let ups = r.ups_are in
     let is = up_read c.args.up.now.items c.args.node.0 c.index.result.now (omega (arith, below, ups)) c.index.ensures c.if-not-index.false in
-    on_ok c.step_in.result _ _ _ _ c.step_in.ensures.nodes c.step_in.ensures.sent c.step_in.ensures.goes
+    on_ok c.tick_in.result _ _ _ _ c.tick_in.ensures.nodes c.tick_in.ensures.sent c.tick_in.ensures.goes
     (λ a b e.
     tick_is g.E.RaftEntry.noop_entry c.args.count c.args.nodes.now.items c.args.up.now.items c.args.sent.now.items c.args.node below r.states_are r.ups_are c.in-Tick.unseen _ _ is e a b
     ∙ ap (λ event. happens c.args.count g.E.RaftEntry.noop_entry (world_in c.args.count c.args.nodes.now.items c.args.up.now.items c.args.sent.now.items) (c.args.node, event)) (sym c.in-Tick.is))
