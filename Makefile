@@ -1,6 +1,7 @@
 # make play SCRIPT=examples/first-write.jsonl   plays a script and prints its report
 # make test                                     the gate: every proof, must-fail edit, test and program, and the examples
-# make bench                                    what an event costs as the journal grows, and a piece of a region map
+# make bench                                    what an event costs as the journal grows, a piece of a region map, and an event
+#                                               of the log as its past messages grow in number
 
 SCRIPT ?= examples/first-write.jsonl
 PROGRAM := crates/table_play/out/bin/table_play
@@ -16,3 +17,4 @@ test:
 bench:
 	@tools/bench
 	@tools/bench-regions
+	@tools/bench-raft
