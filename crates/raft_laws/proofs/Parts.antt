@@ -1,5 +1,5 @@
 -- What holds of the part of the log in runs of more than the log.
-use Rattle.std.proofs.Common.{◌≡◌, ℕ, zero, suc, ◌<◌, ◌≤◌, ◌+◌, ◌⊎◌, inl, inr, List, [], ◌∷◌, ◌++◌, length, take, refl, sym, ap, subst, ◌∙◌, arith, append_assoc, append-nil, length-append}
+use Rattle.std.proofs.Common.{◌≡◌, ℕ, zero, suc, ◌<◌, ◌≤◌, ◌+◌, ◌⊎◌, inl, inr, List, [], ◌++◌, length, take, sym, ap, subst, ◌∙◌, arith, append_assoc, append-nil, length-append}
 use Rattle.std.proofs.lemmas.Bool.{cases_lt}
 use Rattle.std.proofs.lemmas.List.{take_all}
 use Rattle.std.specs.Prelude.{IsTrue}
@@ -10,7 +10,7 @@ use Rattle.schedule_laws.proofs.Runs.{run-append}
 use Rattle.raft_laws.specs.declared.event.RaftEvent.{RaftEvent}
 use Rattle.raft_laws.specs.World.{World, start, happens, after, moment, leads, term_of_node, log_of, committed}
 use Rattle.raft_laws.specs.Laws.{IsFrontOf}
-use Rattle.raft_laws.specs.Parts.{InRun, Becomes, IsLogPart, Fits, KeepsPromises}
+use Rattle.raft_laws.specs.Parts.{InRun, IsLogPart, Fits, KeepsPromises}
 use Rattle.raft_laws.proofs.Logs.{front_of}
 use Rattle.raft_laws.proofs.Moments.{one_leader, logs_match, leaders_complete, nodes_agree, votes_last, views_grow, deliveries_fit}
 

@@ -1,5 +1,5 @@
 -- Each entry of a log was put to the leader of its term, or is the one with which a leader began.
-use Rattle.std.proofs.Common.{◌≡◌, ◌==◌, ◌&&◌, ℕ, zero, suc, ◌<◌, ◌≤◌, ◌+◌, ◌-◌, min, max, nat_lt, cond, not, Bool, true, false, ◌⊎◌, inl, inr, List, [], ◌∷◌, ◌++◌, map, length, take, drop, Option, Some, None, refl, sym, ap, subst, ◌∙◌, arith, slice_get, length-take}
+use Rattle.std.proofs.Common.{◌≡◌, ◌==◌, ◌&&◌, ℕ, zero, suc, ◌+◌, ◌-◌, min, max, nat_lt, cond, not, Bool, true, false, inl, inr, List, [], ◌∷◌, ◌++◌, map, length, take, drop, Option, Some, None, refl, sym, ap, subst, ◌∙◌, arith, slice_get, length-take}
 use Rattle.std.proofs.lemmas.Bool.{cond_both, and_from, and_parts}
 use Rattle.std.proofs.lemmas.List.Sums.{common_prefix_len-le}
 use Rattle.std.specs.Prelude.{slice_set}
@@ -10,23 +10,23 @@ use Rattle.raft_vote.specs.declared.log.LogEntry.{LogEntry}
 use Rattle.raft_vote.specs.declared.message.RaftMessage.{RaftMessage}
 use Rattle.raft_vote.specs.declared.message.RaftMessage.TheVariants.{VoteAsk, VoteSay, Append, AppendSay}
 use Rattle.raft_vote.specs.State.{VoteState}
-use Rattle.raft_vote.specs.Log.{term_at, last_term}
-use Rattle.raft_vote.specs.Rows.{others, is_leader, wins, vote_tick, asks, take_term, following, vote_asked, vote_said}
+use Rattle.raft_vote.specs.Log.{last_term}
+use Rattle.raft_vote.specs.Rows.{others, is_leader, wins, vote_tick, asks, take_term, following, vote_said}
 use Rattle.raft_append.specs.Merge.{Taken, fits, agreeing, merged, taken}
 use Rattle.raft_append.specs.Commit.{decided}
 use Rattle.raft_append.specs.Peers.{progress_at, progressed, reset_to}
 use Rattle.raft_node.specs.declared.input.RaftInput.{RaftInput}
 use Rattle.raft_node.specs.declared.input.RaftInput.TheVariants.{Tick as InputTick, Deliver as InputDeliver}
 use Rattle.raft_node.specs.State.{RaftState}
-use Rattle.raft_node.specs.Rows.{RaftStepped, is_full, prev_for, append_to, append_all, with_entry, won, elected, elect_row, tick_row, ask_row, vote_row, answered, append_row, say_row, deliver_row, input_row, advanced, raft_step, proposed, ends_numbers}
-use Rattle.schedule_laws.specs.Schedules.{set_at, run}
+use Rattle.raft_node.specs.Rows.{RaftStepped, is_full, prev_for, append_to, append_all, with_entry, won, elected, tick_row, answered, deliver_row, input_row, advanced, raft_step, proposed, ends_numbers}
+use Rattle.schedule_laws.specs.Schedules.{set_at}
 use Rattle.schedule_laws.proofs.Lists.{All-append, All-weaker, All-map, All-map_of, All-at}
 use Rattle.schedule_laws.proofs.Nodes.{set_at_both}
 use Rattle.schedule_laws.proofs.Runs.{run-push}
 use Rattle.raft_laws.specs.declared.event.RaftEvent.{RaftEvent}
 use Rattle.raft_laws.specs.declared.event.RaftEvent.TheVariants.{Tick, Propose, Deliver, Crash, Restart}
-use Rattle.raft_laws.specs.World.{Sent, World, start, after, moment, posted, steps, addressed, message_to, comes, proposes, kept, acts, rests, happens, leads, term_of_node, log_of}
-use Rattle.raft_laws.specs.Sources.{EachFrom, CarriesFrom, HasSources, WasPut, IsPut, EntriesArePut}
+use Rattle.raft_laws.specs.World.{Sent, World, start, after, moment, posted, steps, message_to, comes, proposes, kept, acts, rests, happens, leads, term_of_node, log_of}
+use Rattle.raft_laws.specs.Sources.{EachFrom, CarriesFrom, HasSources, IsPut}
 use Rattle.raft_laws.proofs.Logs.{fits_within}
 use Rattle.raft_laws.proofs.Fitting.{message_is}
 
