@@ -39,54 +39,77 @@ fn expect(
 const FIRST: &[u8] =
     b"{\"do\":\"setup\",\"nodes\":3,\"hash\":1}\n{\"do\":\"put\",\"op\":1,\"node\":0,\"key\":\"a\",\"value\":\"x\"}\n{\"do\":\"deliver\",\"message\":1}\n{\"do\":\"deliver\",\"message\":3}\n{\"do\":\"deliver\",\"message\":3}\n";
 
+/// A key that is put, read, deleted and read again.
+const FOUR: &[u8] =
+    b"{\"do\":\"setup\",\"nodes\":1,\"hash\":1}\n{\"do\":\"put\",\"op\":1,\"node\":0,\"key\":\"a\",\"value\":\"x\"}\n{\"do\":\"read\",\"op\":2,\"node\":0,\"key\":\"a\"}\n{\"do\":\"delete\",\"op\":3,\"node\":0,\"key\":\"a\"}\n{\"do\":\"read\",\"op\":4,\"node\":0,\"key\":\"a\"}";
+
 #[test]
 fn plays_worked_scripts(rt: HostRuntime) -> Result<(), Fail> {
-    let alloc = rt.alloc();
-    expect(
-        &rt,
-        outcome(alloc, b"", 0, 0),
-        b"table nodes 1 hash 8 shards 1\nend\n",
-        0,
-    )?;
-    expect(
-        &rt,
-        outcome(alloc, FIRST, 0, 0),
-        b"table nodes 3 hash 1 shards 1\nop 1 done none 0.1.0:1\nstory \"a\" 1\nend\n",
-        0,
-    )?;
-    expect(
-        &rt,
-        outcome(
-            alloc,
+    let cases: [(&[u8], &[u8]); 13] = [
+        (
+            FIRST,
+            b"table nodes 3 hash 1 shards 1\nop 1 done none 0.1.0:1\nstory \"a\" 1\nend\n",
+        ),
+        (
+            FOUR,
+            b"table nodes 1 hash 1 shards 1\nop 1 done none 0.1.0:1\nop 2 done \"x\" 0.1.0:2\nop 3 done \"x\" 0.1.0:3\nop 4 done none 0.1.0:4\nstory \"a\" 1 2 3 4\nend\n",
+        ),
+        // an empty script
+        (b"", b"table nodes 1 hash 8 shards 1\nend\n"),
+        // one node decides at once
+        (
             b"{\"do\":\"put\",\"op\":1,\"node\":0,\"key\":\"a\",\"value\":\"x\"}\n",
-            0,
-            0,
+            b"table nodes 1 hash 8 shards 1\nop 1 done none 0.1.0:1\nstory \"a\" 1\nend\n",
         ),
-        b"table nodes 1 hash 8 shards 1\nop 1 done none 0.1.0:1\nstory \"a\" 1\nend\n",
-        0,
-    )?;
-    expect(
-        &rt,
-        outcome(
-            alloc,
+        // a secondary does not serve
+        (
             b"{\"do\":\"setup\",\"nodes\":3}\n{\"do\":\"put\",\"op\":1,\"node\":1,\"key\":\"a\",\"value\":\"x\"}",
-            0,
-            0,
+            b"table nodes 3 hash 8 shards 1\nop 1 unavailable not_serving\nstory \"a\"\nend\n",
         ),
-        b"table nodes 3 hash 8 shards 1\nop 1 unavailable not_serving\nstory \"a\"\nend\n",
-        0,
-    )?;
-    expect(
-        &rt,
-        outcome(
-            alloc,
+        // neither does it serve a read
+        (
+            b"{\"do\":\"setup\",\"nodes\":3,\"hash\":1}\n{\"do\":\"read\",\"op\":1,\"node\":1,\"key\":\"a\"}",
+            b"table nodes 3 hash 1 shards 1\nop 1 unavailable not_serving\nstory \"a\"\nend\n",
+        ),
+        // a message that was not sent
+        (
             b"{\"do\":\"setup\",\"nodes\":3}\n{\"do\":\"put\",\"op\":1,\"node\":0,\"key\":\"a\",\"value\":\"x\"}\n{\"do\":\"deliver\",\"message\":9}\n",
-            0,
-            0,
+            b"table nodes 3 hash 8 shards 1\nop 1 open\nrefused 3 no_such_message\nstory \"a\" 1\nend\n",
         ),
-        b"table nodes 3 hash 8 shards 1\nop 1 open\nrefused 3 no_such_message\nstory \"a\" 1\nend\n",
-        0,
-    )?;
+        // given up, and then decided late
+        (
+            b"{\"do\":\"setup\",\"nodes\":3,\"hash\":1}\n{\"do\":\"put\",\"op\":1,\"node\":0,\"key\":\"a\",\"value\":\"x\"}\n{\"do\":\"giveup\",\"node\":0,\"for\":1}\n{\"do\":\"read\",\"op\":2,\"node\":0,\"key\":\"a\"}\n{\"do\":\"flush\"}",
+            b"table nodes 3 hash 1 shards 1\nop 1 unavailable no_majority voters 1 of 3\nop 2 done \"x\" 0.1.0:2\nstory \"a\" 1 2\nend\n",
+        ),
+        // a read that is not decided stands in no story
+        (
+            b"{\"do\":\"setup\",\"nodes\":3,\"hash\":1}\n{\"do\":\"put\",\"op\":1,\"node\":0,\"key\":\"a\",\"value\":\"x\"}\n{\"do\":\"read\",\"op\":2,\"node\":0,\"key\":\"a\"}\n{\"do\":\"giveup\",\"node\":0,\"for\":2}",
+            b"table nodes 3 hash 1 shards 1\nop 1 open\nop 2 unavailable no_majority voters 1 of 3\nstory \"a\" 1\nend\n",
+        ),
+        // what is lost is not flushed
+        (
+            b"{\"do\":\"setup\",\"nodes\":3,\"hash\":1}\n{\"do\":\"put\",\"op\":1,\"node\":0,\"key\":\"a\",\"value\":\"x\"}\n{\"do\":\"lose\",\"message\":1}\n{\"do\":\"lose\",\"message\":2}\n{\"do\":\"lose\",\"message\":3}\n{\"do\":\"flush\"}\n{\"do\":\"read\",\"op\":2,\"node\":0,\"key\":\"a\"}",
+            b"table nodes 3 hash 1 shards 1\nop 1 open\nop 2 open\nrefused 5 no_such_message\nstory \"a\" 1\nend\n",
+        ),
+        // one ack is enough, and what is lost may still be delivered
+        (
+            b"{\"do\":\"setup\",\"nodes\":3,\"hash\":1}\n{\"do\":\"put\",\"op\":1,\"node\":0,\"key\":\"a\",\"value\":\"x\"}\n{\"do\":\"lose\",\"message\":1}\n{\"do\":\"lose\",\"message\":2}\n{\"do\":\"deliver\",\"message\":2}\n{\"do\":\"flush\"}",
+            b"table nodes 3 hash 1 shards 1\nop 1 done none 0.1.0:1\nstory \"a\" 1\nend\n",
+        ),
+        // two keys
+        (
+            b"{\"do\":\"setup\",\"nodes\":1,\"hash\":1}\n{\"do\":\"put\",\"op\":1,\"node\":0,\"key\":\"b\",\"value\":\"x\"}\n{\"do\":\"put\",\"op\":2,\"node\":0,\"key\":\"a\",\"value\":\"y\"}\n{\"do\":\"read\",\"op\":3,\"node\":0,\"key\":\"b\"}",
+            b"table nodes 1 hash 1 shards 1\nop 1 done none 0.1.0:1\nop 2 done none 0.1.0:2\nop 3 done \"x\" 0.1.0:3\nstory \"a\" 2\nstory \"b\" 1 3\nend\n",
+        ),
+        // compare and set
+        (
+            b"{\"do\":\"setup\",\"nodes\":1,\"hash\":1}\n{\"do\":\"put\",\"op\":1,\"node\":0,\"key\":\"a\",\"value\":\"x\"}\n{\"do\":\"cas\",\"op\":2,\"node\":0,\"key\":\"a\",\"expect\":\"y\",\"value\":\"z\"}\n{\"do\":\"cas\",\"op\":3,\"node\":0,\"key\":\"a\",\"expect\":\"x\",\"value\":null}\n{\"do\":\"read\",\"op\":4,\"node\":0,\"key\":\"a\"}",
+            b"table nodes 1 hash 1 shards 1\nop 1 done none 0.1.0:1\nop 2 done kept \"x\" 0.1.0:2\nop 3 done swapped 0.1.0:3\nop 4 done none 0.1.0:4\nstory \"a\" 1 2 3 4\nend\n",
+        ),
+    ];
+    for (script, report) in cases {
+        expect(&rt, outcome(rt.alloc(), script, 0, 0), report, 0)?;
+    }
     Ok(())
 }
 
@@ -104,6 +127,12 @@ fn tells_faults(rt: HostRuntime) -> Result<(), Fail> {
         &rt,
         outcome(alloc, FIRST, 0, 3),
         b"table nodes 3 hash 1 shards 1\nop 1 done none 0.1.0:1\n",
+        5,
+    )?;
+    expect(
+        &rt,
+        outcome(alloc, FOUR, 0, 3),
+        b"table nodes 1 hash 1 shards 1\nop 1 done none 0.1.0:1\n",
         5,
     )?;
     Ok(())

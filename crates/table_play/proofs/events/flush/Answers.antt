@@ -26,8 +26,7 @@ loop-count-preserved c =
     let waits : waiting p.past p.lost ≡ Some number = sym (c.in-Some.ensures inv.0) in
     let is : q ≡ delivered setup p line number =
     ap (λ (met : Bool). played_at c.deliver.new.world c.deliver.new.refused.items met) (sym c.if-branch.false) ∙ c.in_ok-deliver.ensures.ok
-    ∙ ap (λ (s : SetupState). play_delivery s p line number (message_at p.past number)) inv.1 in
-    (
+    ∙ ap (λ (s : SetupState). play_delivery s p line number (message_at p.past number)) inv.1 in (
       c.in_ok-deliver.ensures.on c.if-branch.false,
       c.in_ok-deliver.ensures.setup ∙ inv.1,
       sym (flush_goes left setup p q line number waits is refl) ∙ ap (λ (n : ℕ). flush_by n setup p line) (sym (left_before c.loop-count._count c.loop-count-test.true)) ∙ inv.2,
