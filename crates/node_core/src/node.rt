@@ -12,7 +12,7 @@ use region_map::{Key, NodeId, StepRefused};
 use secondary_exec::Following;
 use std::alloc::Global;
 use std::marker::Model;
-use store_plain::PlainStore;
+use store_plain::PlainRows;
 
 /// A message that the network brings, with its sender.
 #[derive(Debug, Drop)]
@@ -26,7 +26,7 @@ pub struct Brought {
 pub struct Node {
     me: NodeId,
     setup: Setup,
-    store: PlainStore,
+    store: PlainRows,
     primary: Option<Primary>,
     following: Option<Following>,
 }
@@ -45,7 +45,7 @@ impl Node {
         requires { me.0 < setup.now.nodes }
         ensures { IfOk result (λ node. node ≡ begin_node setup.now me.0) }
     {
-        let store = PlainStore::new(alloc);
+        let store = PlainRows::new(alloc);
         if me.0 == 0 {
             let primary = setup_primary(alloc, setup)?;
             return Ok(Node {

@@ -10,12 +10,12 @@ use region_map::{Key, NodeId, StepRefused};
 use register_laws::{Op, OpId};
 use secondary_exec::Following;
 use std::alloc::Global;
-use store_plain::PlainStore;
+use store_plain::PlainRows;
 
 /// A client asks for an operation: a primary dispatches it, any other node does not serve the key.
 pub fn request(
     primary: &mut Option<Primary>,
-    store: &mut PlainStore,
+    store: &mut PlainRows,
     alloc: Global,
     op: OpId,
     key: &Key,
@@ -57,7 +57,7 @@ pub fn give_up(
 /// The network brings a part of a primary's stream.
 pub fn take_stream(
     following: &mut Option<Following>,
-    store: &mut PlainStore,
+    store: &mut PlainRows,
     alloc: Global,
     from: NodeId,
     stream: &Stream,

@@ -10,7 +10,7 @@ use region_map::Key;
 use register_laws::{Op, Reply, Value, step};
 use std::alloc::Global;
 use store_api::Row;
-use store_plain::PlainStore;
+use store_plain::PlainRows;
 
 /// Whether the operation writes at a register with this value.
 fn is_writing(state: &Option<Value>, what: &Op) -> bool
@@ -48,7 +48,7 @@ fn effect_on(
 /// The reply to an operation at a timestamp on the rows, and the part that tells the secondaries of it.
 pub fn effect(
     alloc: Global,
-    store: &PlainStore,
+    store: &PlainRows,
     at: u64,
     key: &Key,
     what: &Op,
@@ -64,7 +64,7 @@ pub fn effect(
 }
 
 /// Gives the primary's own rows what a part writes.
-pub fn apply(part: Part, store: &mut PlainStore) -> Result<(), OutOfMemory>
+pub fn apply(part: Part, store: &mut PlainRows) -> Result<(), OutOfMemory>
     ensures { OnOk result (store.new ≡ with_written store.old part) }
 {
     match part {

@@ -13,7 +13,7 @@ use region_map::{Id, Key, NUMBERS_END, NodeId, StepRefused};
 use register_laws::{Op, OpId};
 use std::alloc::Global;
 use std::marker::Model;
-use store_plain::PlainStore;
+use store_plain::PlainRows;
 use write_dispatch::Pending;
 
 /// A started execution of a contract by its primary.
@@ -76,7 +76,7 @@ impl Primary {
         op: OpId,
         key: &Key,
         what: &Op,
-        store: &mut PlainStore,
+        store: &mut PlainRows,
         out: &mut Outputs,
     ) -> Result<(), StepRefused>
         ensures execution { OnOk result

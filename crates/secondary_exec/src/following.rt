@@ -5,7 +5,7 @@ ghost use Rattle.secondary_exec.specs.Stream.{timestamp_of, with_part, acknowled
 use exec_types::{Got, Message, Output, Outputs, Part, SessionName, Stream};
 use region_map::{NUMBERS_END, NodeId, StepRefused};
 use std::alloc::Global;
-use store_plain::PlainStore;
+use store_plain::PlainRows;
 
 /// A secondary that joined its primary's session.
 #[derive(Clone, Copy, Debug)]
@@ -27,7 +27,7 @@ impl Following {
         from: NodeId,
         stream: &Stream,
         view: u64,
-        store: &mut PlainStore,
+        store: &mut PlainRows,
         out: &mut Outputs,
     ) -> Result<(), StepRefused>
         ensures following { OnOk result (self.new ≡ (stream_row self.old store.old from stream.now view).following) }
@@ -69,7 +69,7 @@ impl Following {
         &mut self,
         alloc: Global,
         part: &Part,
-        store: &mut PlainStore,
+        store: &mut PlainRows,
     ) -> Result<(), StepRefused>
         ensures following { OnOk result (self.new ≡ record self.old { position = timestamp_of part.now }) }
         ensures store { OnOk result (store.new ≡ with_part store.old part.now) }

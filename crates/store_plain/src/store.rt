@@ -1,51 +1,137 @@
 //! The plain store.
-ghost use Rattle.std.specs.Prelude.{◌≡◌, [], OnOk, OnErr, option_copied};
-ghost use Rattle.store_plain.specs.Rows.{row_of, with_row};
+ghost use Rattle.std.specs.Prelude.{◌≡◌, ℕ, ◌<◌, List, [], Some, IfOk};
+ghost use Rattle.region_map.specs.Maps.{value_at};
+ghost use Rattle.branch_history.specs.Paths.{zero};
 
+use crate::PlainRows;
+use crate::versions::{advanced, beginning, comes_to, replaced, version_of};
+use branch_history::Version;
 use memory::OutOfMemory;
-use region_map::Key;
+use region_map::{Id, Key, Region, RegionMap};
 use std::alloc::Global;
-use std::collections::BTreeMap;
 use std::marker::Model;
-use store_api::Row;
+use store_api::{Item, Row, Store};
 
-/// The rows of a node, seen as the list of keys and rows in the order of the keys.
+/// A store whose rows stand in one ordered map.
 #[derive(Drop)]
 pub struct PlainStore {
-    rows: BTreeMap<Key, Row>,
+    rows: PlainRows,
+    versions: RegionMap<Version>,
 }
 
 impl Model for PlainStore {
-    ghost use Rattle.store_plain.specs.Rows.{Rows};
+    ghost use Rattle.store_plain.specs.Stores.{Stored};
+    ghost use Rattle.store_api.specs.Versions.{IsWhole};
 
-    ghost Value = { Rows };
+    ghost Value = { Stored };
 
-    ghost view = { λ a. a.rows.entries };
+    ghost view = { λ a. record { rows = a.rows; versions = a.versions } };
+
+    ghost invariant = { λ a. IsWhole a.versions };
 }
 
 impl PlainStore {
-    /// No rows.
-    pub fn new(alloc: Global) -> PlainStore
-        ensures { result ≡ [] }
+    /// No rows, and the zero version at each key.
+    pub fn new(alloc: Global, hashes: u8) -> Result<PlainStore, OutOfMemory>
+        requires { 0 < hashes }
+        ensures rows { IfOk result (λ s. s.rows ≡ []) }
+        ensures hashes { IfOk result (λ s. s.versions.hashes ≡ hashes) }
+        ensures versions { IfOk result (λ s. (h : ℕ) (k : List ℕ) → h < hashes → value_at s.versions.pieces h k ≡ Some zero) }
     {
-        PlainStore {
-            rows: BTreeMap::new(alloc),
-        }
+        let versions = beginning(alloc, hashes)?;
+        let rows = PlainRows::new(alloc);
+        Ok(PlainStore { rows, versions })
+    }
+}
+
+impl Store for PlainStore {
+    ghost rows = { λ s. s.rows };
+
+    ghost versions = { λ s. s.versions };
+
+    fn hashes(&self) -> u8 {
+        self.rows.are_ordered();
+        self.versions.hashes()
     }
 
-    /// The row of a key, where it has one.
-    pub fn get(&self, key: &Key) -> Option<&Row>
-        ensures { option_copied result ≡ row_of self.now key.now }
-    {
+    fn get(&self, key: &Key) -> Option<&Row> {
         self.rows.get(key)
     }
 
-    /// Gives the key this row in place of the one that it had, if any.
-    pub fn put(&mut self, key: Key, row: Row) -> Result<(), OutOfMemory>
-        ensures ok { OnOk result (self.new ≡ with_row self.old key row) }
-        ensures err { OnErr result (self.new ≡ self.old) }
-    {
-        self.rows.insert(key, row)?;
+    fn version(&self, key: &Key) -> Version {
+        version_of(&self.versions, key)
+    }
+
+    fn versions(&self, alloc: Global, part: &Region) -> Result<RegionMap<Version>, OutOfMemory> {
+        let versions = self.versions.mask(alloc, part)?;
+        Ok(versions)
+    }
+
+    fn advance(
+        &mut self,
+        alloc: Global,
+        part: &Region,
+        branch: Id,
+        at: u64,
+        effect: Option<Item>,
+    ) -> Result<(), OutOfMemory> {
+        let versions = advanced(alloc, &self.versions, part, branch, at)?;
+        match effect {
+            None => {}
+            Some(effect) => {
+                if comes_to(&self.versions, part, branch, at, &effect.key) {
+                    self.rows.put_item(effect)?;
+                }
+            }
+        }
+        self.versions = versions;
+        Ok(())
+    }
+
+    fn start_branch(
+        &mut self,
+        alloc: Global,
+        part: &Region,
+        branch: Id,
+        initial: u64,
+    ) -> Result<(), OutOfMemory> {
+        let first = Version {
+            branch: Some(branch),
+            timestamp: initial,
+        };
+        let versions = replaced(alloc, &self.versions, part, first)?;
+        self.versions = versions;
+        Ok(())
+    }
+
+    fn scan(
+        &self,
+        alloc: Global,
+        part: &Region,
+        above: &RegionMap<u64>,
+        limit: usize,
+    ) -> Result<Vec<Key>, OutOfMemory> {
+        let keys = self.rows.newer_keys(alloc, part, above, limit)?;
+        Ok(keys)
+    }
+
+    fn replace_range(
+        &mut self,
+        alloc: Global,
+        part: &Region,
+        items: &[Item],
+        version: &Version,
+    ) -> Result<(), OutOfMemory> {
+        let versions = replaced(alloc, &self.versions, part, *version)?;
+        self.rows.put_items(alloc, items)?;
+        self.versions = versions;
+        Ok(())
+    }
+
+    fn erase_range(&mut self, alloc: Global, part: &Region) -> Result<(), OutOfMemory> {
+        let versions = replaced(alloc, &self.versions, part, Version::zero())?;
+        self.rows.erase(part, versions.hashes());
+        self.versions = versions;
         Ok(())
     }
 }
