@@ -1,8 +1,8 @@
 -- Rows by key: a finite map, as the list of its keys and rows in the order of the keys.
-use Rattle.std.specs.Prelude.{ℕ, Bool, false, ◌&&◌, not, List, [], ◌∷◌, filter, nat_lt, Option, Some, None}
+use Rattle.std.specs.Prelude.{ℕ, Bool, false, ◌&&◌, not, List, [], ◌∷◌, filter, nat_eq, nat_lt, Option, Some, None, if◌then◌else◌}
 use Rattle.std.specs.List.Sorted.{IsStrictlySortedBy}
 use Rattle.std.specs.Ordering.{nat_cmp}
-use Rattle.std.specs.Cmp.Lexicographic.{slice_cmp}
+use Rattle.std.specs.Cmp.Lexicographic.{slice_cmp, pointwise}
 use Rattle.std.specs.Map.{lookup, keys_of, remove_entry}
 use Rattle.std.specs.BTreeMap.{insert_entry, is_at}
 use Rattle.region_map.specs.declared.region.Region.{Region}
@@ -53,6 +53,15 @@ with_item rows item = with_row_or_none item.row rows item.key
 abbrev pub with_items : Rows → List Item → Rows
 with_items rows [] = rows
 with_items rows (item ∷ items) = with_items (with_item rows item) items
+
+-- whether two keys are the same
+abbrev pub is_same_key : List ℕ → List ℕ → Bool
+is_same_key a b = pointwise nat_eq a b
+
+-- the row that the last item of a key gives it, or this one where no item is of the key
+abbrev pub last_row : List Item → List ℕ → Option Row → Option Row
+last_row [] key row = row
+last_row (item ∷ items) key row = last_row items key (if is_same_key item.key key then item.row else row)
 
 -- whether a part has a key, where there are so many hashes
 abbrev pub has_key : Region → ℕ → List ℕ → Bool

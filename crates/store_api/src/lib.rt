@@ -6,12 +6,14 @@
 
 ghost use Rattle.std.specs.Prelude.{◌≡◌, IfOk};
 
+pub use laws::{effects_come_last, rows_at_each_key, scans_are_fronts, stores_are_maps};
 use memory::OutOfMemory;
 use region_map::Key;
 use register_laws::{Value, copy_value};
 use std::alloc::Global;
 pub use store::Store;
 
+pub mod laws;
 pub mod store;
 
 /// What a node stores of a key that was written: its value, or none where it was deleted, and its recency,

@@ -1,0 +1,4 @@
+pub mod RowLemmas
+pub mod Ordered
+pub mod AtKeys
+pub mod Maps
