@@ -2,3 +2,4 @@ pub mod RowLemmas
 pub mod Ordered
 pub mod AtKeys
 pub mod Maps
+pub mod Scans

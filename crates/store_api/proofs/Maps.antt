@@ -34,10 +34,10 @@ take_short (suc n) (suc m) (x ∷ xs) le lt =
 
 -- ---- rows with the same row at each key are the same
 
-has_first : (x : List ℕ × Row) (xs : Rows) → row_of (x ∷ xs) x.0 ≡ Some x.1
+pub has_first : (x : List ℕ × Row) (xs : Rows) → row_of (x ∷ xs) x.0 ≡ Some x.1
 has_first x xs = lookup_head (is_at (slice_cmp nat_cmp x.0)) x xs (ap is_eq (tied_itself nat_list_cmp_total x.0))
 
-none_behind : (x : List ℕ × Row) (xs : Rows) → AreOrdered (x ∷ xs) → row_of xs x.0 ≡ None
+pub none_behind : (x : List ℕ × Row) (xs : Rows) → AreOrdered (x ∷ xs) → row_of xs x.0 ≡ None
 none_behind x xs s =
     lookup-none (is_at (slice_cmp nat_cmp x.0)) xs
     (none_past_head (eq_by_cmp_equiv nat_list_cmp_total) x.0 x xs (IsDistinct-from_sorted (slice_cmp nat_cmp) _ s) (ap is_eq (tied_itself nat_list_cmp_total x.0)))

@@ -83,3 +83,12 @@ is_newer part above e = has_key part above.hashes e.0 && is_above (value_at abov
 -- the keys of a part with a recency above their bound, in the order of the keys
 abbrev pub newer_keys : Region → Pieced ℕ → Rows → List (List ℕ)
 newer_keys part above rows = keys_of (filter (is_newer part above) rows)
+
+-- whether the row of a key, where it has one, has a recency above a bound, of which there is one
+abbrev pub row_is_above : Option ℕ → Option Row → Bool
+row_is_above bound None = false
+row_is_above bound (Some row) = is_above bound row.recency
+
+-- whether a part has a key whose row has a recency above the bound that the key has
+abbrev pub key_is_newer : Region → Pieced ℕ → Rows → List ℕ → Bool
+key_is_newer part above rows key = has_key part above.hashes key && row_is_above (value_at above.pieces (hash_of key above.hashes) key) (row_of rows key)

@@ -1,11 +1,15 @@
 //! What follows from the calls of a store, whichever way it is kept.
 ghost use Rattle.std.specs.Prelude.{◌≡◌, ◌<◌, ◌≤◌, ◌&&◌, ℕ, List, Option, Some, None, take, length, if◌then◌else◌};
+ghost use Rattle.std.specs.List.{list_any};
+ghost use Rattle.std.specs.List.Sorted.{IsStrictlySortedBy};
+ghost use Rattle.std.specs.Ordering.{nat_cmp};
+ghost use Rattle.std.specs.Cmp.Lexicographic.{slice_cmp};
 ghost use Rattle.region_map.specs.declared.id.Id.{Id};
 ghost use Rattle.region_map.specs.declared.region.Region.{Region};
 ghost use Rattle.region_map.specs.Maps.{Pieced, value_at};
 ghost use Rattle.branch_history.specs.declared.version.Version.{Version};
 ghost use Rattle.store_api.specs.declared.Item.{Item};
-ghost use Rattle.store_api.specs.Rows.{Rows, AreOrdered, row_of, is_same_key, last_row, with_item, with_items, has_key, rows_outside, newer_keys};
+ghost use Rattle.store_api.specs.Rows.{Rows, AreOrdered, row_of, is_same_key, last_row, with_item, with_items, has_key, rows_outside, newer_keys, key_is_newer};
 ghost use Rattle.store_api.specs.Versions.{comes_to, advanced_rows};
 ghost use Rattle.store_api.specs.Calls.{IsAdvanced};
 
@@ -45,6 +49,15 @@ pub fn effects_come_last<T: Store>(
     let _hashes = without.hashes();
     let _same = with.hashes();
 }
+
+/// A scan without limit finds each key of the part once whose row has a recency above the key's bound, and no
+/// other, in the order of the keys.
+pub fn scans_find_what_is_newer()
+    ensures found { (part : Region) (above : Pieced ℕ) (rows : Rows) (key : List ℕ) → AreOrdered rows
+        → list_any (is_same_key key) (newer_keys part above rows) ≡ key_is_newer part above rows key }
+    ensures ordered { (part : Region) (above : Pieced ℕ) (rows : Rows) → AreOrdered rows
+        → IsStrictlySortedBy (slice_cmp nat_cmp) (newer_keys part above rows) }
+{}
 
 /// A scan with a limit is the front of each scan with a greater one, and all of it where it found fewer keys
 /// than the limit.

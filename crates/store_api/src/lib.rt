@@ -6,7 +6,10 @@
 
 ghost use Rattle.std.specs.Prelude.{◌≡◌, IfOk};
 
-pub use laws::{effects_come_last, rows_at_each_key, scans_are_fronts, stores_are_maps};
+pub use laws::{
+    effects_come_last, rows_at_each_key, scans_are_fronts, scans_find_what_is_newer,
+    stores_are_maps,
+};
 use memory::OutOfMemory;
 use region_map::Key;
 use register_laws::{Value, copy_value};

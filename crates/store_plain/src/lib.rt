@@ -10,4 +10,6 @@ pub use store::PlainStore;
 
 pub mod rows;
 pub mod store;
+#[cfg(test)]
+mod tests;
 pub mod versions;
