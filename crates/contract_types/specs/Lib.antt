@@ -1,1 +1,5 @@
+pub mod Configs
 pub mod Setup
+pub mod Sources
+pub mod Tables
+pub mod Tilings

@@ -1,0 +1,4 @@
+pub mod Begins
+pub mod Bounds
+pub mod Everywhere
+pub mod Nearest
