@@ -1,0 +1,6 @@
+pub mod Based
+pub mod Meaning
+pub mod Pairs
+pub mod Registering
+pub mod Steps
+pub mod Tables
