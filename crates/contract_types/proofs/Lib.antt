@@ -2,3 +2,4 @@ pub mod Begins
 pub mod Bounds
 pub mod Everywhere
 pub mod Nearest
+pub mod Shards

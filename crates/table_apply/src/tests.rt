@@ -61,10 +61,7 @@ fn table(alloc: Global) -> Result<TableState, Fail>
         primary: NodeId(0),
     };
     let shards = vec![in alloc; shard]?;
-    let config = match TableConfig::new(alloc, 2, 1, shards) {
-        Ok(config) => config,
-        Err(_) => return Err(Fail),
-    };
+    let config = TableConfig::new(alloc, 2, 1, shards)?;
     let state = TableState::begin(alloc, config)?;
     Ok(state)
 }
