@@ -109,7 +109,7 @@ IsInStep-next setup past lost node input nodes new messages more waits waiting r
       states_are = n ∙ ap (λ (l : List (Option NodeState)). set l node.0 (Some (stepped setup past node input))) h.states_are ∙ states-next setup past node input (omega arith);
       sent_are = sent_now;
       waits_are = λ k. waits_next past lost e k (contains nat_cmp waits k) (contains nat_cmp waiting k) h.known_sent (arrives k) (h.waits_are k)
-      (w k ∙ ap₂ (λ (a b : ℕ). not (delivers input k) && (is_new a b k || contains nat_cmp waits k)) (ap length h.sent_are) (ap length sent_now));
+          (w k ∙ ap₂ (λ (a b : ℕ). not (delivers input k) && (is_new a b k || contains nat_cmp waits k)) (ap length h.sent_are) (ap length sent_now));
       known_sent = sent_next past lost e h.known_sent arrives;
       ops_are = r;
     }

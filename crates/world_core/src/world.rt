@@ -5,9 +5,9 @@ ghost use Rattle.world_core.specs.Run.{IsRun, message_at, entry_of};
 ghost use Rattle.world_core.specs.Waiting.{waiting};
 ghost use Rattle.world_core.specs.World.{push_refusal, after_refusal, receiver_of};
 
-use crate::{LoseRefused, PushRefused};
 use crate::envelope::{Envelope, find};
 use crate::parts::{begin_nodes, least, refusal, stop_waiting, take};
+use crate::{LoseRefused, PushRefused};
 use contract_types::Setup;
 use exec_types::Input;
 use memory::OutOfMemory;
