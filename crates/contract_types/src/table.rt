@@ -1,6 +1,7 @@
 //! The state of a table that follows from its log: what was asked for, which contracts are current, which
 //! branches were registered.
-ghost use Rattle.std.specs.Prelude.{◌≡◌, ◌∷◌, ◌<◌, ℕ, List, not, IfOk, OnOk, OnErr, IsTrue};
+ghost use Rattle.std.specs.Prelude.{◌≡◌, ◌∷◌, ◌<◌, ℕ, true, List, not, IfOk, OnOk, OnErr, IsTrue};
+ghost use Rattle.std.specs.Option.{is_some};
 ghost use Rattle.region_map.specs.Maps.{value_at};
 ghost use Rattle.branch_history.specs.Histories.{HasHashes, knows, knows_origins};
 ghost use Rattle.contract_types.specs.Tables.{Table, branch_at, setup};
@@ -63,9 +64,11 @@ impl TableState {
         &self.contracts
     }
 
-    /// The branches that were registered.
+    /// The branches that were registered. Their origins have as many hashes as the table, so its maps of
+    /// versions may be compared by it.
     pub fn history(&self) -> &History
-        ensures { result.now ≡ self.now.history }
+        ensures value { result.now ≡ self.now.history }
+        ensures hashes { HasHashes self.now.history self.now.config.hashes }
     {
         &self.history
     }
@@ -75,6 +78,8 @@ impl TableState {
         ensures hashes { result.now.hashes ≡ self.now.config.hashes }
         ensures at { (h : ℕ) (k : List ℕ) → h < self.now.config.hashes
             → value_at result.now.pieces h k ≡ branch_at self.now.history h k }
+        ensures whole { (h : ℕ) (k : List ℕ) → h < self.now.config.hashes
+            → is_some (branch_at self.now.history h k) ≡ true }
     {
         &self.current
     }

@@ -11,7 +11,7 @@ use Rattle.contract_types.specs.declared.change.Change.TheVariants.{Noop, SetCon
 use Rattle.contract_types.specs.Tables.{Table}
 use Rattle.table_apply.specs.declared.applied.Condition.TheVariants.{Removed, Regions, Primary, IdNew, Tenure, BasedOn}
 use Rattle.table_apply.specs.Conditions.{leaving, are_current, tile, have_primaries, are_new, has_tenure, is_based_on, is_new_branch}
-use Rattle.table_apply.specs.Effects.{Effect, skipped, taken, replaced, birth, applied_at}
+use Rattle.table_apply.specs.Effects.{Effect, skipped, taken, replaced, birth, applied_at, FitsTable}
 
 -- new contracts that are taken
 pub record Accepted (contracts : List Contract) (removed : List Id) (added : List Contract) : Type 0 where
@@ -45,7 +45,8 @@ contracts_after P t index (RegisterBranch branch region tenure maker based_on or
     cond_both (not (is_new_branch t.history branch origin.pieces)) (skipped t IdNew) last Q (λ e. p) (λ c. p)))
 
 pub history_after : (P : Branches → Type 0) (t : Table) (index : ℕ) (change : Change) → P t.history
-    → ((id : Id) (b : BranchBirth) → knows t.history id ≡ false → knows_origins t.history b.origin.pieces ≡ true → P ((id, b) ∷ t.history))
+    → ((id : Id) (b : BranchBirth) → knows t.history id ≡ false → knows_origins t.history b.origin.pieces ≡ true
+    → ((hashes : ℕ) → FitsTable hashes change → b.origin.hashes ≡ hashes) → P ((id, b) ∷ t.history))
     → P (applied_at t index change).table.history
 history_after P t index Noop p f = p
 history_after P t index (SetConfig config) p f = p
@@ -68,4 +69,4 @@ history_after P t index (RegisterBranch branch region tenure maker based_on orig
     cond_both (not (is_based_on t.config.hashes t.history region based_on)) (skipped t BasedOn) third Q (λ e. p) (λ b.
     cond_both (not (is_new_branch t.history branch origin.pieces)) (skipped t IdNew) last Q (λ e. p) (λ c.
     let both = and_parts (not (knows t.history branch)) (knows_origins t.history origin.pieces) (not-false _ c) in
-    f branch (birth region tenure origin) (not-true _ both.0) both.1)))
+    f branch (birth region tenure origin) (not-true _ both.0) both.1 (λ hashes fits. fits))))

@@ -8,7 +8,7 @@ use Rattle.region_map.specs.Regions.{in_region, in_range}
 use Rattle.region_map.proofs.Bands.{past_band}
 use Rattle.branch_history.specs.declared.history.BranchBirth.{BranchBirth}
 use Rattle.branch_history.specs.Paths.{Branches, id_eq}
-use Rattle.branch_history.specs.Histories.{birth_of, knows}
+use Rattle.branch_history.specs.Histories.{birth_of, knows, HasHashes, IsHistory}
 use Rattle.contract_types.specs.declared.contract.Contract.{Contract}
 use Rattle.contract_types.specs.declared.contract.Holder.{Holder}
 use Rattle.contract_types.specs.declared.change.Change.{Change}
@@ -18,7 +18,7 @@ use Rattle.contract_types.specs.Tilings.{holders}
 use Rattle.contract_types.specs.Tables.{AllBelow, branch_at, first_contract, first_contracts, first_id, first_birth, first_branches}
 use Rattle.contract_types.proofs.Begins.{good, regions_good, some_branch, below_unknown, below_next}
 use Rattle.table_apply.specs.Conditions.{contract_region, leaving, staying, has_id, is_held, same_regions, same_primaries, may_follow, are_new}
-use Rattle.table_apply.specs.Effects.{tenure_from, placed, replaced, applied_at}
+use Rattle.table_apply.specs.Effects.{tenure_from, placed, replaced, applied_at, FitsTable}
 use Rattle.table_apply.specs.Runs.{change_at, table_at, contract_at, how_many, Replaces, Goes, IsPast, AreFounded}
 use Rattle.table_apply.proofs.Based.{id_same, id_self, region_same}
 use Rattle.table_apply.proofs.Steps.{Accepted, contracts_after, history_after}
@@ -419,7 +419,28 @@ founded config changes zero = first_founded config.hashes 0 config.shards [] tt 
 founded config changes (suc w) =
     let t = table_at config changes w in
     let before = founded config changes w in
-    history_after AreFounded t (suc w) (change_at changes w) before (λ id b n o. (n, o, before))
+    history_after AreFounded t (suc w) (change_at changes w) before (λ id b n o f. (n, o, before))
+
+first_hashes : (hashes place : ℕ) (shards : List ShardConfig) (older : Branches) → HasHashes older hashes → HasHashes (first_branches hashes place shards older) hashes
+first_hashes hashes place [] older o = o
+first_hashes hashes place (s ∷ ss) older o = first_hashes hashes (place + 1) ss ((first_id place s, first_birth hashes s) ∷ older) (refl, o)
+
+origin_hashes : (config : ConfigState) (changes : List Change) (w : ℕ) → ((place : ℕ) → FitsTable config.hashes (change_at changes place))
+    → HasHashes (table_at config changes w).history config.hashes
+origin_hashes config changes zero fits = first_hashes config.hashes 0 config.shards [] tt
+origin_hashes config changes (suc w) fits =
+    let t = table_at config changes w in
+    let before = origin_hashes config changes w fits in
+    history_after (λ bs. HasHashes bs config.hashes) t (suc w) (change_at changes w) before
+    (λ id b n o f. (f config.hashes (fits w), before))
+
+is_history : (bs : Branches) (hashes : ℕ) → AreFounded bs → HasHashes bs hashes → IsHistory bs
+is_history [] hashes f o = tt
+is_history (b ∷ bs) hashes f o = (f.0, f.1, subst (λ n. HasHashes bs n) (sym o.0) o.1, is_history bs hashes f.2 o.1)
+
+pub histories : (config : ConfigState) (changes : List Change) (w : ℕ) → ((place : ℕ) → FitsTable config.hashes (change_at changes place))
+    → IsHistory (table_at config changes w).history
+histories config changes w fits = is_history (table_at config changes w).history config.hashes (founded config changes w) (origin_hashes config changes w fits)
 
 pub some_current : (config : ConfigState) (changes : List Change) (w h : ℕ) (k : List ℕ) → IsConfig config → h < config.hashes
     → is_some (branch_at (table_at config changes w).history h k) ≡ true
@@ -427,7 +448,7 @@ some_current config changes zero h k ok l = some_branch config h k ok l
 some_current config changes (suc w) h k ok l =
     let t = table_at config changes w in
     let before = some_current config changes w h k ok l in
-    history_after (λ bs. is_some (branch_at bs h k) ≡ true) t (suc w) (change_at changes w) before (λ id b n o.
+    history_after (λ bs. is_some (branch_at bs h k) ≡ true) t (suc w) (change_at changes w) before (λ id b n o f.
     cond_both (in_region b.region h k) (Some id) (branch_at t.history h k) (λ (x : Option Id). is_some x ≡ true) (λ i. refl) (λ i. before))
 
 is_known : (bs : Branches) (id : Id) (b : BranchBirth) → birth_of bs id ≡ Some b → knows bs id ≡ true

@@ -11,7 +11,7 @@ ghost use Rattle.region_map.specs.Maps.{Pieced, value_at};
 ghost use Rattle.branch_history.specs.declared.version.Version.{Version};
 ghost use Rattle.branch_history.specs.declared.history.BranchBirth.{BranchBirth};
 ghost use Rattle.branch_history.specs.Paths.{Branches};
-ghost use Rattle.branch_history.specs.Histories.{birth_of};
+ghost use Rattle.branch_history.specs.Histories.{birth_of, IsHistory};
 ghost use Rattle.contract_types.specs.declared.contract.Contract.{Contract};
 ghost use Rattle.contract_types.specs.declared.change.Change.{Change};
 ghost use Rattle.contract_types.specs.declared.change.Change.TheVariants.{RegisterBranch};
@@ -20,7 +20,7 @@ ghost use Rattle.contract_types.specs.Tilings.{holders};
 ghost use Rattle.contract_types.specs.Tables.{branch_at};
 ghost use Rattle.table_apply.specs.Conditions.{contract_region, tile, branch_on, is_based_on};
 ghost use Rattle.table_apply.specs.declared.applied.Applied.TheVariants.{Taken};
-ghost use Rattle.table_apply.specs.Effects.{applied_at};
+ghost use Rattle.table_apply.specs.Effects.{applied_at, FitsTable};
 ghost use Rattle.table_apply.specs.Runs.{Registers, table_at, change_at, contract_at, how_many, Replaces, Goes, IsPast, AreFounded};
 
 /// What is asked of the regions of added contracts: each pair of a hash and a byte list lies in one of them where it
@@ -53,9 +53,12 @@ pub fn contracts_have_ids_of_their_own()
         → how_many (table_at config changes w).contracts id ≤ 1 }
 {}
 
-/// A branch has an id of its own, and the branches that it goes on from were registered before it.
+/// A branch has an id of its own, and the branches that it goes on from were registered before it. So, where the
+/// maps that the changes bring have as many hashes as the table, the laws of paths hold of its history.
 pub fn origins_are_registered_first()
-    ensures { (config : ConfigState) (changes : List Change) (w : ℕ) → AreFounded (table_at config changes w).history }
+    ensures founded { (config : ConfigState) (changes : List Change) (w : ℕ) → AreFounded (table_at config changes w).history }
+    ensures history { (config : ConfigState) (changes : List Change) (w : ℕ)
+        → ((place : ℕ) → FitsTable config.hashes (change_at changes place)) → IsHistory (table_at config changes w).history }
 {}
 
 /// A branch is registered in the tenure of the contract in force on its region, whose primary is its maker, and
