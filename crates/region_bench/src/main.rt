@@ -128,6 +128,26 @@ fn meet_again(
     Ok(pieces)
 }
 
+/// The sum of the values that one key after the other is found to have.
+fn get_again(
+    alloc: Global,
+    map: &RegionMap<u64>,
+    pieces: u32,
+    rounds: u32,
+) -> Result<u64, OutOfMemory> {
+    let mut total: u64 = 0;
+    let mut number: u64 = 0;
+    for _ in 0..rounds {
+        number = number.wrapping_add(7919) % u64::from(pieces.max(1));
+        let key = key(alloc, number / u64::from(HASHES))?;
+        let hash = (number % u64::from(HASHES)) as u8;
+        if let Some(value) = map.get_at(hash, &key) {
+            total = total.wrapping_add(*value);
+        }
+    }
+    Ok(total)
+}
+
 /// The sum of the values of a map's pieces.
 fn sum(map: &RegionMap<u64>) -> u64 {
     let mut total: u64 = 0;
@@ -143,6 +163,7 @@ enum Call {
     Set,
     Mask,
     Meet,
+    Get,
 }
 
 fn named(word: &str) -> Option<Call> {
@@ -150,6 +171,7 @@ fn named(word: &str) -> Option<Call> {
         "set" => Some(Call::Set),
         "mask" => Some(Call::Mask),
         "meet" => Some(Call::Meet),
+        "get" => Some(Call::Get),
         _ => None,
     }
 }
@@ -175,6 +197,10 @@ fn measured(
             let other = map.copy(alloc)?;
             let met = meet_again(alloc, &map, &other, rounds)?;
             Ok((met, sum(&map)))
+        }
+        Call::Get => {
+            let found = get_again(alloc, &map, pieces, rounds)?;
+            Ok((map.pieces().len() as u64, found))
         }
     }
 }

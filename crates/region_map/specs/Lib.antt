@@ -2,7 +2,8 @@ pub mod Bands
 pub mod Bits
 pub mod Calls
 pub mod Keys
+pub mod Lookups
+pub mod Maps
 pub mod Nodes
 pub mod Regions
-pub mod Maps
 pub mod Rows

@@ -27,7 +27,7 @@ pub fn is_in_range(from: &Option<Key>, to: &Option<Key>, key: &Key) -> bool
 
 /// Whether a key lies at or above a lower bound.
 #[tactic(auto, using(crate::proofs::Order::before_nil))]
-fn is_begun(from: &Option<Key>, key: &Key) -> bool
+pub fn is_begun(from: &Option<Key>, key: &Key) -> bool
     ensures { result ≡ not (before key.now (low from.now)) }
 {
     match from {

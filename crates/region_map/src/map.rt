@@ -3,6 +3,7 @@ ghost use Rattle.std.specs.Prelude.{◌≡◌, ℕ, ◌<◌, ◌≤◌, ◌&&◌
 ghost use Rattle.std.specs.Option.{is_some, option_copied};
 ghost use Rattle.region_map.specs.Keys.{hash_of};
 ghost use Rattle.region_map.specs.Regions.{in_region, is_open};
+ghost use Rattle.region_map.specs.Lookups.{AreInOrder};
 ghost use Rattle.region_map.specs.Maps.{value_at, IsCanonical};
 ghost use Rattle.region_map.specs.Calls.{paired};
 
@@ -71,16 +72,22 @@ impl<V> RegionMap<V> {
     }
 }
 
-/// The value of the first piece that has a key with this hash.
+/// The value of the piece that has a key with this hash. It is the last one that begins no later, and the pieces stand
+/// in order, so that it is found by halving.
 fn find<'a, V>(pieces: &'a [(Region, V)], hash: u8, key: &Key) -> Option<&'a V>
+    requires { AreInOrder pieces.now }
     ensures { option_copied result ≡ value_at pieces.now hash key.now }
 {
-    for piece in pieces {
-        if piece.0.contains_at(hash, key) {
-            return Some(&piece.1);
-        }
+    let begun = pieces.partition_point(|piece| piece.0.begins_by(hash, key));
+    if begun == 0 {
+        return None;
     }
-    None
+    let last = &pieces[begun - 1];
+    if last.0.contains_at(hash, key) {
+        Some(&last.1)
+    } else {
+        None
+    }
 }
 
 /// The lesser of two numbers.

@@ -2,8 +2,9 @@
 ghost use Rattle.std.specs.Prelude.{◌≡◌, ◌<◌, IfOk};
 ghost use Rattle.region_map.specs.Keys.{hash_of};
 ghost use Rattle.region_map.specs.Regions.{in_region};
+ghost use Rattle.region_map.specs.Lookups.{begins_by};
 
-use crate::bound::{copy_bound, is_in_range};
+use crate::bound::{copy_bound, is_begun, is_in_range};
 use crate::{Key, hash_of};
 use memory::OutOfMemory;
 use std::alloc::Global;
@@ -33,6 +34,13 @@ impl Region {
         ensures { result ≡ in_region self.now hash key.now }
     {
         self.hash_from <= hash && hash < self.hash_to && is_in_range(&self.from, &self.to, key)
+    }
+
+    /// Whether the region begins no later than a key with this hash, in the order of hashes and then of keys.
+    pub(crate) fn begins_by(&self, hash: u8, key: &Key) -> bool
+        ensures { result ≡ begins_by self.now hash key.now }
+    {
+        self.hash_to <= hash || (self.hash_from <= hash && is_begun(&self.from, key))
     }
 
     /// The same region again.
