@@ -54,6 +54,12 @@ pub fn is_same_id(a: &Id, b: &Id) -> bool
 }
 
 impl MapValue for Version {
+    ghost use Rattle.branch_history.specs.Equal.{same_version, version_decides};
+
+    ghost same = { same_version };
+
+    ghost decides = { version_decides };
+
     fn same(&self, other: &Version) -> bool {
         self == other
     }

@@ -18,6 +18,12 @@ pub enum Walk {
 }
 
 impl MapValue for Walk {
+    ghost use Rattle.branch_history.specs.Equal.{same_walk, walk_decides};
+
+    ghost same = { same_walk };
+
+    ghost decides = { walk_decides };
+
     fn same(&self, other: &Walk) -> bool {
         self == other
     }

@@ -1,8 +1,10 @@
 pub mod Bands
 pub mod Bits
 pub mod Calls
+pub mod Equal
 pub mod Keys
 pub mod Lookups
+pub mod Made
 pub mod Maps
 pub mod Nodes
 pub mod Regions

@@ -7,7 +7,7 @@
 pub use hash::hash_of;
 pub use id::{Id, NodeId};
 pub use key::{Key, KeyLength};
-pub use map::{RegionMap, same_maps};
+pub use map::{RegionMap, joined_is_the_one_map, same_maps};
 pub use memory::OutOfMemory;
 pub use node_set::{Members, NodeSet, majorities_meet, majority};
 pub use region::Region;

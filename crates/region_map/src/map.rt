@@ -1,11 +1,13 @@
 //! Maps from keys to values, cut by regions.
-ghost use Rattle.std.specs.Prelude.{◌≡◌, ℕ, ◌<◌, ◌≤◌, ◌&&◌, List, nat_lt, Option, Some, None, IfOk, OnOk, OnErr, if◌then◌else◌};
+ghost use Rattle.std.specs.Prelude.{◌≡◌, ℕ, ◌<◌, ◌≤◌, Bool, ◌&&◌, List, nat_lt, Option, Some, None, IfOk, OnOk, OnErr, if◌then◌else◌};
 ghost use Rattle.std.specs.Option.{is_some, option_copied};
 ghost use Rattle.region_map.specs.Keys.{hash_of};
+ghost use Rattle.region_map.specs.Equal.{Decides};
 ghost use Rattle.region_map.specs.Regions.{in_region, is_open};
 ghost use Rattle.region_map.specs.Lookups.{AreInOrder};
-ghost use Rattle.region_map.specs.Maps.{value_at, IsCanonical};
+ghost use Rattle.region_map.specs.Maps.{Pieced, value_at, IsCanonical};
 ghost use Rattle.region_map.specs.Calls.{paired};
+ghost use Rattle.region_map.specs.Made.{joined, constant_map, set_map, mask_map, meet_map};
 
 use crate::band::{add_row, flattened};
 use crate::bound::{is_known, is_range};
@@ -131,6 +133,7 @@ impl<V: MapValue> RegionMap<V> {
         requires { 0 < hashes }
         ensures hashes { IfOk result (λ m. m.hashes ≡ hashes) }
         ensures at { IfOk result (λ m. (h : ℕ) (k : List ℕ) → value_at m.pieces h k ≡ (if nat_lt h hashes && in_region domain h k then Some value else None)) }
+        ensures made { IfOk result (λ m. m ≡ constant_map V.same domain hashes value) }
     {
         let hash_to = lesser(domain.hash_to, hashes);
         let mut pieces = Vec::new(alloc);
@@ -180,6 +183,7 @@ impl<V: MapValue> RegionMap<V> {
         ensures at { IfOk result (λ m. (h : ℕ) (k : List ℕ) → h < self.now.hashes
             → value_at m.pieces h k ≡ F.combined with.now (value_at self.now.pieces h k) (value_at other.now.pieces h k)) }
         ensures beyond { IfOk result (λ m. (h : ℕ) (k : List ℕ) → self.now.hashes ≤ h → value_at m.pieces h k ≡ None) }
+        ensures made { IfOk result (λ m. m ≡ joined X.same (F.combined with.now) self.now other.now) }
     {
         let mut bands = Vec::new(alloc);
         for hash in 0..self.hashes {
@@ -279,6 +283,7 @@ impl<V: MapValue> RegionMap<V> {
         ensures hashes { OnOk result (self.new.hashes ≡ self.old.hashes) }
         ensures at { OnOk result ((h : ℕ) (k : List ℕ) → value_at self.new.pieces h k
             ≡ (if in_region part.now h k && is_some (value_at self.old.pieces h k) then Some value else value_at self.old.pieces h k)) }
+        ensures made { OnOk result (self.new ≡ set_map V.same part.now value self.old) }
         ensures err { OnErr result (self.new ≡ self.old) }
     {
         let other = RegionMap::constant(alloc, part.copy(alloc)?, self.hashes(), value)?;
@@ -292,6 +297,7 @@ impl<V: MapValue> RegionMap<V> {
         ensures hashes { IfOk result (λ m. m.hashes ≡ self.now.hashes) }
         ensures at { IfOk result (λ m. (h : ℕ) (k : List ℕ) → value_at m.pieces h k
             ≡ (if in_region part.now h k then value_at self.now.pieces h k else None)) }
+        ensures made { IfOk result (λ m. m ≡ mask_map V.same part.now self.now) }
     {
         let other = RegionMap::constant(alloc, part.copy(alloc)?, self.hashes(), true)?;
         let new = self.zip(alloc, &other, &Masked)?;
@@ -308,6 +314,7 @@ impl<V: MapValue> RegionMap<V> {
         ensures hashes { IfOk result (λ m. m.hashes ≡ self.now.hashes) }
         ensures at { IfOk result (λ m. (h : ℕ) (k : List ℕ) → value_at m.pieces h k
             ≡ paired (value_at self.now.pieces h k) (value_at other.now.pieces h k)) }
+        ensures made { IfOk result (λ m. m ≡ meet_map V.same W.same self.now other.now) }
     {
         let _hashes = self.hashes;
         let new = self.zip(alloc, other, &Paired)?;
@@ -325,3 +332,16 @@ pub fn same_maps<V>(a: &RegionMap<V>, b: &RegionMap<V>)
     let _first = a.hashes();
     let _second = b.hashes();
 }
+
+/// What two maps give together is one map: it is canonical, has the values that they give together below the
+/// first one's hashes and none behind, and no other map is so.
+pub fn joined_is_the_one_map<V, W, X>()
+    ensures canonical { (same : X → X → Bool) → Decides same → (f : Option V → Option W → Option X) (m : Pieced V) (n : Pieced W) → 0 < m.hashes → IsCanonical (joined same f m n) }
+    ensures hashes { (same : X → X → Bool) (f : Option V → Option W → Option X) (m : Pieced V) (n : Pieced W) → (joined same f m n).hashes ≡ m.hashes }
+    ensures at { (same : X → X → Bool) → Decides same → (f : Option V → Option W → Option X) (m : Pieced V) (n : Pieced W) → 0 < m.hashes
+        → (h : ℕ) (k : List ℕ) → h < m.hashes → value_at (joined same f m n).pieces h k ≡ f (value_at m.pieces h k) (value_at n.pieces h k) }
+    ensures beyond { (same : X → X → Bool) → Decides same → (f : Option V → Option W → Option X) (m : Pieced V) (n : Pieced W) → 0 < m.hashes
+        → (h : ℕ) (k : List ℕ) → m.hashes ≤ h → value_at (joined same f m n).pieces h k ≡ None }
+    ensures only { (same : X → X → Bool) → Decides same → (f : Option V → Option W → Option X) (m : Pieced V) (n : Pieced W) (r : Pieced X) → IsCanonical r → r.hashes ≡ m.hashes
+        → ((h : ℕ) (k : List ℕ) → h < m.hashes → value_at r.pieces h k ≡ f (value_at m.pieces h k) (value_at n.pieces h k)) → r ≡ joined same f m n }
+{}

@@ -1,13 +1,16 @@
 //! What a region map may hold.
-ghost use Rattle.std.specs.Prelude.{◌≡◌, ◌↔◌, Option, IfOk, IsTrue};
+ghost use Rattle.std.specs.Prelude.{◌≡◌, ◌↔◌, Bool, Option, IfOk, IsTrue};
 ghost use Rattle.std.specs.Option.{option_copied};
+ghost use Rattle.region_map.specs.Equal.{Decides};
 
 use crate::{Id, NodeId};
 use memory::OutOfMemory;
 use std::alloc::Global;
 
-/// A value that a region map may hold.
+/// A value that a region map may hold. In definitions its ghost `same` tests whether two are the same.
 pub trait MapValue: Drop + Sized {
+    ghost same: { Self → Self → Bool };
+
     /// Whether two values are the same.
     fn same(&self, other: &Self) -> bool
         ensures { IsTrue result ↔ (self.now ≡ other.now) };
@@ -15,6 +18,8 @@ pub trait MapValue: Drop + Sized {
     /// The same value again.
     fn copy(&self, alloc: Global) -> Result<Self, OutOfMemory>
         ensures { IfOk result (λ copy. copy ≡ self.now) };
+
+    ghost decides: { Decides same };
 }
 
 /// What two region maps together give a pair that has these values in them.
@@ -27,6 +32,12 @@ pub trait Combine<V, W, X> {
 }
 
 impl MapValue for bool {
+    ghost use Rattle.region_map.specs.Equal.{same_bool, bool_decides};
+
+    ghost same = { same_bool };
+
+    ghost decides = { bool_decides };
+
     fn same(&self, other: &bool) -> bool {
         self == other
     }
@@ -37,6 +48,13 @@ impl MapValue for bool {
 }
 
 impl MapValue for u64 {
+    ghost use Rattle.std.specs.Prelude.{◌==◌};
+    ghost use Rattle.region_map.specs.Equal.{number_decides};
+
+    ghost same = { λ a b. a == b };
+
+    ghost decides = { number_decides };
+
     fn same(&self, other: &u64) -> bool {
         self == other
     }
@@ -47,6 +65,12 @@ impl MapValue for u64 {
 }
 
 impl MapValue for Id {
+    ghost use Rattle.region_map.specs.Equal.{same_id, id_decides};
+
+    ghost same = { same_id };
+
+    ghost decides = { id_decides };
+
     fn same(&self, other: &Id) -> bool {
         self == other
     }
@@ -57,6 +81,12 @@ impl MapValue for Id {
 }
 
 impl MapValue for NodeId {
+    ghost use Rattle.region_map.specs.Equal.{same_node, node_decides};
+
+    ghost same = { same_node };
+
+    ghost decides = { node_decides };
+
     fn same(&self, other: &NodeId) -> bool {
         self == other
     }
@@ -67,6 +97,12 @@ impl MapValue for NodeId {
 }
 
 impl<V: MapValue> MapValue for Option<V> {
+    ghost use Rattle.region_map.specs.Equal.{same_option, option_decides};
+
+    ghost same = { same_option V.same };
+
+    ghost decides = { option_decides V.same V.decides };
+
     fn same(&self, other: &Option<V>) -> bool {
         match (self, other) {
             (None, None) => true,
@@ -84,6 +120,12 @@ impl<V: MapValue> MapValue for Option<V> {
 }
 
 impl<V: MapValue, W: MapValue> MapValue for (V, W) {
+    ghost use Rattle.region_map.specs.Equal.{same_pair, pair_decides};
+
+    ghost same = { same_pair V.same W.same };
+
+    ghost decides = { pair_decides V.same W.same V.decides W.decides };
+
     fn same(&self, other: &(V, W)) -> bool {
         self.0.same(&other.0) && self.1.same(&other.1)
     }

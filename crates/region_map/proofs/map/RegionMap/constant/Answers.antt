@@ -1,9 +1,10 @@
-use Rattle.std.proofs.Common.{◌<◌, ◌∙◌, Some, None, cond, ap, sym}
+use Rattle.std.proofs.Common.{◌<◌, ◌∙◌, [], Some, None, cond, refl, ap, sym}
 use Rattle.std.proofs.lemmas.Bool.{and_parts, ltb-true}
 use Rattle.region_map.specs.Regions.{in_range}
 use Rattle.region_map.specs.Maps.{value_at}
 use Rattle.region_map.proofs.Bands.{one_canonical, nothing_in, all_in, lesser_le}
 use Rattle.region_map.proofs.Calls.{push_first}
+use Rattle.region_map.proofs.Made.{bands_canonical, constant_is}
 use Rattle.region_map.proofs.map.RegionMap.constant.Goals as goal
 
 pub returns-then-not-has_any-clause-at : goal.returns-then-not-has_any-clause-at
@@ -24,3 +25,14 @@ pub returns-clause-at : goal.returns-clause-at
 returns-clause-at g c h k =
     ap (λ ps. value_at ps h k) (push_first _ _ _ c.in_ok-push.ensures.items c.new-pieces.ensures.items)
     ∙ ap (λ b. cond b (Some c.args.value) None) (all_in c.args.domain c.args.hashes c.lesser-hash_to.result h (in_range c.args.domain.from c.args.domain.to k) c.lesser-hash_to.ensures)
+
+pub returns-then-not-has_any-clause-made : goal.returns-then-not-has_any-clause-made
+returns-then-not-has_any-clause-made g c =
+    constant_is g.V.MapValue.same g.met.V.MapValue.decides c.args.domain c.args.hashes c.args.value (record { hashes = c.args.hashes; pieces = c.new-pieces.result.items })
+    (bands_canonical c.args.hashes c.args.hashes [] c.new-pieces.result.items refl c.requires tt c.new-pieces.ensures.items)
+    refl (λ h k. returns-then-not-has_any-clause-at g c h k)
+
+pub returns-clause-made : goal.returns-clause-made
+returns-clause-made g c =
+    constant_is g.V.MapValue.same g.met.V.MapValue.decides c.args.domain c.args.hashes c.args.value (record { hashes = c.args.hashes; pieces = c.push.new.self.items })
+    (invariant_of-result-2 g c) refl (λ h k. returns-clause-at g c h k)

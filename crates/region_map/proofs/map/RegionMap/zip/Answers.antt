@@ -3,6 +3,7 @@ use Rattle.region_map.specs.Maps.{Pieced, IsCanonical, value_at}
 use Rattle.region_map.specs.Rows.{ranges_at, stretches_of}
 use Rattle.region_map.specs.Bands.{band_of}
 use Rattle.region_map.proofs.Bands.{zip_more, zip_seen, none_past, value_at-pieces_of}
+use Rattle.region_map.proofs.Made.{bands_canonical, joined_is}
 use Rattle.region_map.proofs.map.RegionMap.zip.Goals as goal
 
 pub loop-hash-preserved : goal.loop-hash-preserved
@@ -28,3 +29,11 @@ pub returns-clause-beyond : goal.returns-clause-beyond
 returns-clause-beyond g c h k le =
     let n : c.args.self.now.hashes ≡ c.self.inside.hashes = ap (λ (m : Pieced _). m.hashes) (sym c.self.view_is) in
     none_past c.loop-hash.hash (map band_of c.loop-hash.bands.items) c.in_ok-pieces.pieces.items h k c.in_ok-pieces.ensures c.loop-hash.invariant.are (omega arith)
+
+pub returns-clause-made : goal.returns-clause-made
+returns-clause-made g c =
+    let n : c.args.self.now.hashes ≡ c.self.inside.hashes = ap (λ (m : Pieced _). m.hashes) (sym c.self.view_is) in
+    let all : c.loop-hash.hash ≡ c.self.inside.hashes = omega arith in
+    joined_is g.X.MapValue.same g.met.X.MapValue.decides (g.F.Combine.combined c.args.with.now) c.args.self.now c.args.other.now (record { hashes = c.self.inside.hashes; pieces = c.in_ok-pieces.pieces.items })
+    (bands_canonical c.self.inside.hashes c.loop-hash.hash (map band_of c.loop-hash.bands.items) c.in_ok-pieces.pieces.items all c.self.invariant.some_hash c.loop-hash.invariant.are c.in_ok-pieces.ensures)
+    (sym n) (λ h k lt. returns-clause-at g c h k lt)
