@@ -1,3 +1,4 @@
+pub mod AncestorMaps
 pub mod Ancestors
 pub mod Births
 pub mod Grown

@@ -1,3 +1,4 @@
+pub mod AncestorMaps
 pub mod Equal
 pub mod Histories
 pub mod Paths

@@ -5,6 +5,7 @@ ghost use Rattle.std.specs.Option.{option_copied};
 ghost use Rattle.region_map.specs.Keys.{hash_of};
 ghost use Rattle.region_map.specs.Maps.{value_at};
 ghost use Rattle.branch_history.specs.Paths.{is_on, is_branch, or_zero, ancestor, whole, both_at};
+ghost use Rattle.branch_history.specs.AncestorMaps.{ancestor_map, projected_map};
 ghost use Rattle.branch_history.specs.Walks.{on, origin_in, stands_on, walked_at};
 ghost use Rattle.branch_history.specs.Histories.{birth_of, knows, knows_branch, knows_origins, HasHashes, hashes_of, IsHistory};
 
@@ -136,10 +137,12 @@ impl History {
         ensures hashes { IfOk result (λ m. m.hashes ≡ a.now.hashes) }
         ensures at { IfOk result (λ m. (h : ℕ) (k : List ℕ) → value_at m.pieces h k
             ≡ both_at (ancestor self.now h k) (value_at a.now.pieces h k) (value_at b.now.pieces h k)) }
+        ensures made { IfOk result (λ m. m ≡ ancestor_map self.now a.now b.now) }
     {
         let _hashes = a.hashes();
         let walks = a.zip(alloc, b, &Start)?;
         let ends = walk_back(alloc, &self.branches, walks)?;
+        let _count = ends.hashes();
         Ok(ends)
     }
 
@@ -155,10 +158,12 @@ impl History {
         ensures hashes { IfOk result (λ m. m.hashes ≡ versions.now.hashes) }
         ensures at { IfOk result (λ m. (h : ℕ) (k : List ℕ) → value_at m.pieces h k
             ≡ both_at (λ v id. ancestor self.now h k v (whole id)) (value_at versions.now.pieces h k) (value_at branches.now.pieces h k)) }
+        ensures made { IfOk result (λ m. m ≡ projected_map self.now versions.now branches.now) }
     {
         let _hashes = versions.hashes();
         let walks = versions.zip(alloc, branches, &Aim)?;
         let ends = walk_back(alloc, &self.branches, walks)?;
+        let _count = ends.hashes();
         Ok(ends)
     }
 }

@@ -1,6 +1,7 @@
 use Rattle.std.proofs.Common.{◌∙◌, ap, refl}
 use Rattle.region_map.specs.Maps.{value_at}
 use Rattle.branch_history.specs.Walks.{started, walked_at}
+use Rattle.branch_history.proofs.AncestorMaps.{ancestor_map_is}
 use Rattle.branch_history.proofs.Walked.{zip_everywhere, started_at}
 use Rattle.branch_history.proofs.history.History.common_ancestor.Goals as goal
 
@@ -11,3 +12,7 @@ returns-clause-at c h k =
     ∙ ap (walked_at c.args.self.now h k)
     (zip_everywhere c.args.a.now c.args.b.now c.in_ok-walks.walks started h k c.hashes-hashes.ensures.canonical refl (c.in_ok-walks.ensures.at h k) (c.in_ok-walks.ensures.beyond h k))
     ∙ started_at c.args.self.now h k (value_at c.args.a.now.pieces h k) (value_at c.args.b.now.pieces h k)
+
+pub returns-clause-made : goal.returns-clause-made
+returns-clause-made c =
+    ancestor_map_is c.args.self.now c.args.a.now c.args.b.now c.in_ok-ends.ends c.hashes-count.ensures.canonical (c.in_ok-ends.ensures.hashes ∙ c.in_ok-walks.ensures.hashes) (λ h k. returns-clause-at c h k)
