@@ -8,5 +8,6 @@ pub mod Runs
 pub mod Single
 pub mod States
 pub mod Steps
+pub mod Table
 pub mod Told
 pub mod Waits

@@ -29,7 +29,7 @@ has_place (m ∷ ms) (suc k) = has_place ms k ∙ shift k (length ms) (length (m
     shift : (a b c : ℕ) → c ≡ b + 1 → nat_lt a b ≡ nat_lt (suc a) c
     shift a b c e = grind (arith, nat_tests)
 
-numbered_from : (ms : List Envelope) (k : ℕ) → numbered ms (suc k) ≡ slice_get ms k
+pub numbered_from : (ms : List Envelope) (k : ℕ) → numbered ms (suc k) ≡ slice_get ms k
 numbered_from ms k =
     let place : suc k - 1 ≡ k = omega arith in
     ap (λ b. cond b None (slice_get ms (suc k - 1))) (ne_eqb (suc k) 0 (λ e. omega arith)) ∙ ap (slice_get ms) place

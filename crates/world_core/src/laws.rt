@@ -1,11 +1,13 @@
 //! What holds of every run.
-ghost use Rattle.std.specs.Prelude.{◌≡◌, ◌≢◌, ◌↔◌, ◌≤◌, ℕ, List, Some, IsTrue, false};
+ghost use Rattle.std.specs.Prelude.{◌≡◌, ◌≢◌, ◌↔◌, ◌≤◌, ◌<◌, ◌==◌, ℕ, List, Some, IsTrue, false};
 ghost use Rattle.contract_types.specs.Setup.{SetupState};
 ghost use Rattle.register_laws.specs.declared.operation.OpId.{OpId};
 ghost use Rattle.contract_types.specs.declared.counts.Counts.{Counts};
 ghost use Rattle.exec_types.specs.declared.outcome.Outcome.TheVariants.{NotServing, NoMajority};
 ghost use Rattle.node_core.specs.declared.journal.Entry.{Entry};
-ghost use Rattle.world_core.specs.Run.{IsRun, is_requested};
+ghost use Rattle.node_core.specs.Step.{serves};
+ghost use Rattle.world_core.specs.declared.envelope.Envelope.{Envelope};
+ghost use Rattle.world_core.specs.Run.{IsRun, is_requested, message_at, state};
 ghost use Rattle.world_core.specs.Story.{IsRegisterStory, story, answer, is_answered};
 ghost use Rattle.world_core.specs.Served.{IsNotServed};
 ghost use Rattle.world_core.specs.GivenUp.{IsGivenUp};
@@ -45,4 +47,18 @@ pub fn give_ups_of_runs()
 /// In every run, an operation is answered at most once.
 pub fn single_answers_of_runs()
     ensures { (setup : SetupState) (past : List Entry) → IsRun setup past → (op : OpId) → answers_to past op ≤ 1 }
+{}
+
+/// In every run, node 0 serves every key, and no other node serves any.
+pub fn serving_of_runs()
+    ensures { (setup : SetupState) (past : List Entry) → IsRun setup past
+        → (n : ℕ) (key : List ℕ) → serves (state setup n past) key ≡ (n == 0) }
+{}
+
+/// In every run, each message goes from a node of the table to a node of the table.
+pub fn messages_of_runs()
+    ensures from { (setup : SetupState) (past : List Entry) → IsRun setup past
+        → (number : ℕ) (message : Envelope) → message_at past number ≡ Some message → message.from.0 < setup.nodes }
+    ensures to { (setup : SetupState) (past : List Entry) → IsRun setup past
+        → (number : ℕ) (message : Envelope) → message_at past number ≡ Some message → message.to.0 < setup.nodes }
 {}

@@ -6,7 +6,8 @@
 
 pub use envelope::Envelope;
 pub use laws::{
-    answers_of_runs, give_ups_of_runs, refusals_of_runs, single_answers_of_runs, stories_of_runs,
+    answers_of_runs, give_ups_of_runs, messages_of_runs, refusals_of_runs, serving_of_runs,
+    single_answers_of_runs, stories_of_runs,
 };
 pub use lose_refused::LoseRefused;
 pub use push_refused::PushRefused;
