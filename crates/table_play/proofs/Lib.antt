@@ -1,4 +1,5 @@
 pub mod Complete
+pub mod EachLine
 pub mod Flushes
 pub mod Grows
 pub mod Outcomes

@@ -1,4 +1,5 @@
 pub mod Headline
+pub mod Lines
 pub mod Play
 pub mod Steps
 pub mod Whole

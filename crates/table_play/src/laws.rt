@@ -5,6 +5,10 @@ ghost use Rattle.node_core.specs.Journal.{JournalState};
 ghost use Rattle.script_text.specs.declared.status.Status.{Status};
 ghost use Rattle.script_text.specs.declared.status.Status.TheVariants.{OutOfMemory};
 ghost use Rattle.table_play.specs.Headline.{is_command, IsPlay};
+ghost use Rattle.script_text.specs.Lines.{Accepted, read_lines};
+ghost use Rattle.script_text.specs.Script.{ScriptState};
+ghost use Rattle.table_play.specs.Lines.{AllDo};
+ghost use Rattle.table_play.specs.Play.{unplayed};
 ghost use Rattle.table_play.specs.Whole.{outcome_of_text, IsWhole};
 
 /// Where the words are the command, and the source and the sink tell their bytes and meet no fault, the status, the
@@ -16,4 +20,12 @@ pub fn plays_are_whole()
         → is_command words ≡ true → rose faults faults' ≡ false → rose writes writes' ≡ false
         → IsWhole (outcome_of_text text) result journal held written
         ⊎ ((result ≡ OutOfMemory) × (written ≡ held)) }
+{}
+
+/// Each line of an accepted script that is reached before a limit does what its word says: a request, a give-up and
+/// each delivery of a flush add their entry, and a delivery adds its entry or is refused since its message was not
+/// sent. No event is passed over.
+pub fn accepted_lines_are_played()
+    ensures { (text : List ℕ) (script : ScriptState) → read_lines text ≡ Accepted script
+        → AllDo script.setup unplayed script.items }
 {}
