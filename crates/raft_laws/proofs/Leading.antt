@@ -35,7 +35,7 @@ pub reset_matched : (next k : ℕ) (peers : List Progress) → (progress_at (res
 reset_matched next k peers = fresh_matched next (length peers) k
 
 -- the terms of a log that is grounded do not fall
-grounded_rises : {E : Type 0} (nodes : List ℕ) (p : Past E) → PastOk nodes p → (log : List (LogEntry E)) → Grounded p log → Rises log
+pub grounded_rises : {E : Type 0} (nodes : List ℕ) (p : Past E) → PastOk nodes p → (log : List (LogEntry E)) → Grounded p log → Rises log
 grounded_rises nodes p ok log g =
     record {
       at = λ i k h l.

@@ -16,3 +16,5 @@ pub mod Lasting
 pub mod Nets
 pub mod Parts
 pub mod Sources
+pub mod Committing
+pub mod Still

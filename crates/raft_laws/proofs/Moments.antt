@@ -9,12 +9,12 @@ use Rattle.raft_node.specs.Rows.{keeps_view}
 use Rattle.schedule_laws.specs.Schedules.{run}
 use Rattle.raft_laws.specs.declared.event.RaftEvent.{RaftEvent}
 use Rattle.raft_laws.specs.World.{World, start, happens, moment, leads, term_of_node, log_of, committed}
-use Rattle.raft_laws.specs.Laws.{IsFrontOf, VotesLast, OneLeader, LogsMatch, LeadersComplete, NodesAgree, ViewsGrow, DeliveriesFit}
+use Rattle.raft_laws.specs.Laws.{IsFrontOf, VotesLast, OneLeader, LogsMatch, LeadersComplete, TermsRise, NodesAgree, ViewsGrow, DeliveriesFit}
 use Rattle.raft_laws.proofs.Logs.{as_long, front_of, shorter}
 use Rattle.raft_laws.proofs.Past.{Past, Ballot, Reign, Cast, Cast-grows, Grows, Grows-more, Grounded, Grounded-grows, matching, one_reign}
 use Rattle.raft_laws.proofs.Claims.{Certified, Certified-grows, Certified-within, PastOk}
 use Rattle.raft_laws.proofs.Completeness.{has_certified, has_won, agree}
-use Rattle.raft_laws.proofs.Leading.{leads_of}
+use Rattle.raft_laws.proofs.Leading.{leads_of, grounded_rises}
 use Rattle.raft_laws.proofs.Rows.{cast_of}
 use Rattle.raft_laws.proofs.Runs.{Good, happens_since, run_since, message_so, no_past, start_good}
 use Rattle.raft_laws.proofs.Lasting.{Lasts, lasts_from}
@@ -175,7 +175,7 @@ module _ {E : Type 0} (nodes : ℕ) where
   leaders_complete noop = record { later_term = later_term noop; later_moment = later_moment noop }
 
   -- the node with the smaller view has a front of the other's log
-  agreed : (p : Past E) (v w : World E) → PastOk (all_nodes nodes) p → Stays nodes p v → Stays nodes p w → (a b : ℕ) → (v.node a).view ≤ (w.node b).view → IsFrontOf (committed v a) (committed w b)
+  pub agreed : (p : Past E) (v w : World E) → PastOk (all_nodes nodes) p → Stays nodes p v → Stays nodes p w → (a b : ℕ) → (v.node a).view ≤ (w.node b).view → IsFrontOf (committed v a) (committed w b)
   agreed p v w ok x y a b h =
       let s = v.node a in
       let t = w.node b in
@@ -236,6 +236,15 @@ module _ {E : Type 0} (nodes : ℕ) where
             let w = moment nodes noop events j in
             let p = both noop events i j in
             agreed p.now v w p.past p.one p.two n n (lasts noop events i j n h).view;
+      }
+
+  pub terms_rise : (noop : E) → TermsRise nodes noop
+  terms_rise noop =
+      record {
+        order = λ events i n low high h l.
+            let p = then_moment noop events i i (omega arith) in
+            (grounded_rises (all_nodes nodes) p.now p.two.past (log_of (moment nodes noop events i) n) (p.two.each n).grounded).at low high h l;
+        upto = λ events i n index l. let p = then_moment noop events i i (omega arith) in (p.two.each n).upto.at index l;
       }
 
   -- ---- what may come

@@ -5,6 +5,7 @@ use Rattle.std.proofs.lemmas.List.{take_all}
 use Rattle.std.specs.Prelude.{IsTrue}
 use Rattle.region_map.specs.declared.id.NodeId.{NodeId}
 use Rattle.raft_vote.specs.Log.{term_at}
+use Rattle.raft_node.specs.Rows.{advanced}
 use Rattle.schedule_laws.specs.Schedules.{run}
 use Rattle.schedule_laws.proofs.Runs.{run-append}
 use Rattle.raft_laws.specs.declared.event.RaftEvent.{RaftEvent}
@@ -12,7 +13,8 @@ use Rattle.raft_laws.specs.World.{World, start, happens, after, moment, leads, t
 use Rattle.raft_laws.specs.Laws.{IsFrontOf}
 use Rattle.raft_laws.specs.Parts.{InRun, IsLogPart, Fits, KeepsPromises}
 use Rattle.raft_laws.proofs.Logs.{front_of}
-use Rattle.raft_laws.proofs.Moments.{one_leader, logs_match, leaders_complete, nodes_agree, votes_last, views_grow, deliveries_fit}
+use Rattle.raft_laws.proofs.Moments.{one_leader, logs_match, leaders_complete, nodes_agree, terms_rise, votes_last, views_grow, deliveries_fit}
+use Rattle.raft_laws.proofs.Still.{nothing_waits}
 
 module _ {E : Type 0} (nodes : ℕ) (noop : E) where
   abbrev Events : Type 0
@@ -96,6 +98,11 @@ module _ {E : Type 0} (nodes : ℕ) (noop : E) where
           agree = λ i j a b.
               two (λ v w. IsFrontOf (committed v a) (committed w b) ⊎ IsFrontOf (committed w b) (committed v a)) i j
               (λ events x y h. nodes_agree nodes noop events x y a b);
+          still = λ i n. two (λ v w. advanced (v.node n) ≡ v.node n) i i (λ events x y h. nothing_waits nodes noop events x n);
+          order = λ i n low high.
+              two (λ v w. low ≤ high → high ≤ length (log_of v n) → term_at (log_of v n) low ≤ term_at (log_of v n) high) i i
+              (λ events x y h. (terms_rise nodes noop).order events x n low high);
+          upto = λ i n index. two (λ v w. index ≤ length (log_of v n) → term_at (log_of v n) index ≤ term_of_node v n) i i (λ events x y h. (terms_rise nodes noop).upto events x n index);
           term = λ i j n ij. two (λ v w. term_of_node v n ≤ term_of_node w n) i j (λ events x y h. (votes_last nodes noop).term events x y n (h ij));
           view = λ i j n ij. two (λ v w. (v.node n).view ≤ (w.node n).view) i j (λ events x y h. (views_grow nodes noop).view events x y n (h ij));
           within = λ i n. two (λ v w. (v.node n).view ≤ length (log_of v n)) i i (λ events x y h. (views_grow nodes noop).within events x n);

@@ -222,19 +222,19 @@ module _ {E : Type 0} (f g : ℕ → LogEntry E → Type 0) (weaker : (index : �
   carries-weaker (Append term prev prev_term entries commit) h = each-weaker prev entries h
   carries-weaker (AppendSay term ok upto) h = tt
 
-  sources-weaker : (w : World E) → HasSources f w → HasSources g w
+  pub sources-weaker : (w : World E) → HasSources f w → HasSources g w
   sources-weaker w h =
       record {
         logs = λ n. each-weaker 0 (log_of w n) (h.logs n);
         sent = All-weaker (λ (m : Sent E). CarriesFrom f m.message) (λ (m : Sent E). CarriesFrom g m.message) w.sent (λ m. carries-weaker m.message) h.sent;
       }
 
-take_next : {X : Type 0} (xs : List X) (i : ℕ) (x : X) → slice_get xs i ≡ Some x → take (suc i) xs ≡ take i xs ++ x ∷ []
+pub take_next : {X : Type 0} (xs : List X) (i : ℕ) (x : X) → slice_get xs i ≡ Some x → take (suc i) xs ≡ take i xs ++ x ∷ []
 take_next [] i x e = absurd (cc e)
 take_next (y ∷ ys) zero x e = let same : y ≡ x = cc in ap (λ z. z ∷ []) same
 take_next (y ∷ ys) (suc i) x e = ap (λ zs. y ∷ zs) (take_next ys i x e)
 
-take_past : {X : Type 0} (xs : List X) (i : ℕ) → slice_get xs i ≡ None → take (suc i) xs ≡ take i xs
+pub take_past : {X : Type 0} (xs : List X) (i : ℕ) → slice_get xs i ≡ None → take (suc i) xs ≡ take i xs
 take_past [] zero e = refl
 take_past [] (suc i) e = refl
 take_past (y ∷ ys) zero e = absurd (cc e)

@@ -3,7 +3,7 @@ use Rattle.std.specs.Prelude.{◌≡◌, ◌≤◌, ◌<◌, ◌⊎◌, ℕ, Lis
 use Rattle.region_map.specs.declared.id.NodeId.{NodeId}
 use Rattle.raft_vote.specs.Log.{term_at}
 use Rattle.raft_node.specs.declared.input.RaftInput.TheVariants.{Deliver}
-use Rattle.raft_node.specs.Rows.{is_well_formed}
+use Rattle.raft_node.specs.Rows.{advanced, is_well_formed}
 use Rattle.raft_laws.specs.declared.event.RaftEvent.{RaftEvent}
 use Rattle.raft_laws.specs.World.{Sent, moment, leads, term_of_node, log_of, committed, message_to}
 
@@ -43,6 +43,17 @@ pub record LeadersComplete {E : Type 0} (nodes : ℕ) (noop : E) : Type 0 where
   pub later_moment : (events : List (NodeId × RaftEvent E)) (i j a b : ℕ) → i ≤ j → IsTrue (leads (moment nodes noop events j) b)
       → term_of_node (moment nodes noop events i) a ≤ term_of_node (moment nodes noop events j) b
       → IsFrontOf (committed (moment nodes noop events i) a) (log_of (moment nodes noop events j) b)
+
+-- between steps a leader already acts on all that it may: the rule by which it goes on changes nothing
+abbrev pub NothingWaits : {E : Type 0} → ℕ → E → Type 0
+NothingWaits {E} nodes noop = (events : List (NodeId × RaftEvent E)) (i n : ℕ) → advanced ((moment nodes noop events i).node n) ≡ (moment nodes noop events i).node n
+
+-- the terms of a log's entries never fall from one to the next, and none is above its node's
+pub record TermsRise {E : Type 0} (nodes : ℕ) (noop : E) : Type 0 where
+  pub order : (events : List (NodeId × RaftEvent E)) (i n low high : ℕ) → low ≤ high → high ≤ length (log_of (moment nodes noop events i) n)
+      → term_at (log_of (moment nodes noop events i) n) low ≤ term_at (log_of (moment nodes noop events i) n) high
+  pub upto : (events : List (NodeId × RaftEvent E)) (i n index : ℕ) → index ≤ length (log_of (moment nodes noop events i) n)
+      → term_at (log_of (moment nodes noop events i) n) index ≤ term_of_node (moment nodes noop events i) n
 
 -- of what two nodes act on, at whatever moments, one is a front of the other
 abbrev pub NodesAgree : {E : Type 0} → ℕ → E → Type 0

@@ -3,7 +3,7 @@ use Rattle.std.specs.Prelude.{◌≡◌, ◌≤◌, ◌<◌, ◌⊎◌, ℕ, suc
 use Rattle.region_map.specs.declared.id.NodeId.{NodeId}
 use Rattle.raft_vote.specs.Log.{term_at}
 use Rattle.raft_node.specs.declared.input.RaftInput.TheVariants.{Deliver}
-use Rattle.raft_node.specs.Rows.{is_well_formed}
+use Rattle.raft_node.specs.Rows.{advanced, is_well_formed}
 use Rattle.schedule_laws.specs.Schedules.{run}
 use Rattle.raft_laws.specs.declared.event.RaftEvent.{RaftEvent}
 use Rattle.raft_laws.specs.World.{Sent, World, start, happens, after, leads, term_of_node, log_of, committed, message_to}
@@ -42,6 +42,11 @@ pub record KeepsPromises {E : Type 0} (part : ℕ → World E) : Type 0 where
       → IsFrontOf (committed (part i) a) (log_of (part j) b)
   -- of what two nodes act on, one is a front of the other
   pub agree : (i j a b : ℕ) → IsFrontOf (committed (part i) a) (committed (part j) b) ⊎ IsFrontOf (committed (part j) b) (committed (part i) a)
+  -- between steps a leader already acts on all that it may: the rule by which it goes on changes nothing
+  pub still : (i n : ℕ) → advanced ((part i).node n) ≡ (part i).node n
+  -- the terms of a log's entries never fall from one to the next, and none is above its node's
+  pub order : (i n low high : ℕ) → low ≤ high → high ≤ length (log_of (part i) n) → term_at (log_of (part i) n) low ≤ term_at (log_of (part i) n) high
+  pub upto : (i n index : ℕ) → index ≤ length (log_of (part i) n) → term_at (log_of (part i) n) index ≤ term_of_node (part i) n
   -- a node's term and view never go back, and what it acts on only becomes longer
   pub term : (early late n : ℕ) → early ≤ late → term_of_node (part early) n ≤ term_of_node (part late) n
   pub view : (early late n : ℕ) → early ≤ late → ((part early).node n).view ≤ ((part late).node n).view

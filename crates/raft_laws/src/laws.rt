@@ -1,8 +1,9 @@
 //! Laws of every run, each the contract of a function that does nothing.
 ghost use Rattle.std.specs.Prelude.{ℕ};
-ghost use Rattle.raft_laws.specs.Laws.{VotesLast, OneLeader, LogsMatch, LeadersComplete, NodesAgree, ViewsGrow, DeliveriesFit};
+ghost use Rattle.raft_laws.specs.Laws.{VotesLast, OneLeader, LogsMatch, LeadersComplete, NothingWaits, TermsRise, NodesAgree, ViewsGrow, DeliveriesFit};
 ghost use Rattle.raft_laws.specs.World.{World};
 ghost use Rattle.raft_laws.specs.Sources.{EntriesArePut};
+ghost use Rattle.raft_laws.specs.Commits.{LeadersCommit};
 ghost use Rattle.raft_laws.specs.Parts.{InRun, IsLogPart, Fits, KeepsPromises};
 
 use raft_vote::RaftEntry;
@@ -25,6 +26,22 @@ pub fn logs_match<E: RaftEntry>()
 /// What a node acts on is in the log of each later leader.
 pub fn leaders_complete<E: RaftEntry>()
     ensures { (nodes : ℕ) → LeadersComplete nodes E.noop_entry }
+{}
+
+/// What a node acts on, a leader acted on first or at the same moment; and each leader of a later term than that one's,
+/// at whatever moment of a run, has it in its log.
+pub fn leaders_commit<E: RaftEntry>()
+    ensures { (nodes : ℕ) → LeadersCommit nodes E.noop_entry }
+{}
+
+/// Between steps a leader already acts on all that it may: the rule by which it goes on changes nothing.
+pub fn nothing_waits<E: RaftEntry>()
+    ensures { (nodes : ℕ) → NothingWaits nodes E.noop_entry }
+{}
+
+/// The terms of a log's entries never fall from one to the next, and none is above its node's.
+pub fn terms_rise<E: RaftEntry>()
+    ensures { (nodes : ℕ) → TermsRise nodes E.noop_entry }
 {}
 
 /// Of what two nodes act on, at whatever moments of a run, one is a front of the other.

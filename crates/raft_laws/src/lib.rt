@@ -7,8 +7,8 @@
 
 pub use event::{RaftEvent, Sent};
 pub use laws::{
-    deliveries_fit, entries_are_put, leaders_complete, logs_match, nodes_agree, one_leader,
-    parts_keep_promises, views_grow, votes_last,
+    deliveries_fit, entries_are_put, leaders_commit, leaders_complete, logs_match, nodes_agree,
+    nothing_waits, one_leader, parts_keep_promises, terms_rise, views_grow, votes_last,
 };
 pub use world::{RaftPushRefused, RaftWorld};
 
