@@ -1,4 +1,5 @@
 pub mod Based
+pub mod InForce
 pub mod Meaning
 pub mod Pairs
 pub mod Registering

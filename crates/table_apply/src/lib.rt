@@ -6,6 +6,7 @@
 #![tactic(auto)]
 
 pub use applied::{Applied, Condition};
+pub use beginnings::{branches_begin_in_time, contracts_last};
 pub use laws::{
     a_branch_is_registered_in_its_tenure, a_table_follows_from_its_changes,
     branches_are_compared_at_every_pair, contracts_are_past, contracts_follow,
@@ -15,6 +16,7 @@ pub use laws::{
 pub use log_change::apply;
 
 pub mod applied;
+pub mod beginnings;
 mod branches;
 mod contracts;
 pub mod laws;
