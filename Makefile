@@ -4,7 +4,6 @@
 #                                               of the log as its past messages grow in number
 
 SCRIPT ?= examples/first-write.jsonl
-PROGRAM := crates/table_play/out/bin/table_play
 
 .PHONY: play test bench
 
