@@ -3,6 +3,7 @@ use Rattle.std.specs.Prelude.{◌≡◌, ℕ, ◌+◌, ◌<◌, true, List, [], 
 use Rattle.std.specs.Option.{is_some}
 use Rattle.std.specs.List.{AllByRecursion}
 use Rattle.region_map.specs.declared.id.Id.{Id}
+use Rattle.region_map.specs.declared.id.NodeId.{NodeId}
 use Rattle.region_map.specs.declared.region.Region.{Region}
 use Rattle.region_map.specs.Regions.{in_region}
 use Rattle.region_map.specs.Nodes.{node_id}
@@ -46,8 +47,12 @@ first_contract place s = record {
   tenure = 0;
 }
 
+-- the id that a node has made in its first life for the shard of a place
+abbrev pub setup_id : ℕ → NodeId → Id
+setup_id place node = record { node = node; life = 1; counter = place }
+
 abbrev pub first_id : ℕ → ShardConfig → Id
-first_id place s = record { node = s.primary; life = 1; counter = place }
+first_id place s = setup_id place s.primary
 
 -- the zero version everywhere on a region
 abbrev pub zero_origin : ℕ → Region → Pieced Version

@@ -1,5 +1,6 @@
 //! What an operator asks for: how a table is cut into shards, and who replicates each of them.
-ghost use Rattle.std.specs.Prelude.{◌≡◌, ◌↔◌, ◌&&◌, not, IfOk, IsErrOf, IsTrue};
+ghost use Rattle.contract_types.specs.Setup.{nodes_below, whole_shard, whole};
+ghost use Rattle.std.specs.Prelude.{◌≡◌, ◌<◌, ◌≤◌, ◌↔◌, ◌&&◌, not, IfOk, IsErrOf, IsTrue};
 ghost use Rattle.contract_types.specs.Configs.{ConfigState, IsConfig, has_no_shards, is_bad_region, has_bad_region, are_nodes, has_bad_replicas, has_bad_roles, has_regions, has_replicas, has_roles, Overlaps, HasGap};
 
 use crate::Placed;
@@ -132,6 +133,22 @@ impl TableConfig {
         })
     }
 
+    /// One shard of all keys, which every node keeps and votes for, with node 0 as its primary.
+    pub fn whole(alloc: Global, nodes: u8, hashes: u8) -> Result<TableConfig, OutOfMemory>
+        requires nodes { 0 < nodes }
+        requires few { nodes ≤ 64 }
+        requires hashes { 0 < hashes }
+        ensures { IfOk result (λ c. c ≡ whole nodes hashes) }
+    {
+        let mut shards = Vec::new(alloc);
+        shards.push(whole_shard(nodes, hashes))?;
+        Ok(TableConfig {
+            nodes,
+            hashes,
+            shards,
+        })
+    }
+
     /// How many nodes the table has.
     pub fn nodes(&self) -> u8
         ensures value { result ≡ self.now.nodes }
@@ -166,6 +183,37 @@ impl TableConfig {
             hashes: self.hashes,
             shards,
         })
+    }
+}
+
+/// The nodes with numbers below this one.
+fn nodes_below(nodes: u8) -> NodeSet
+    requires { nodes ≤ 64 }
+    ensures { result ≡ nodes_below nodes }
+{
+    let mut set = NodeSet::empty();
+    for node in 0..nodes {
+        set = set.with(NodeId(node));
+    }
+    set
+}
+
+/// All keys, which every node keeps and votes for, with node 0 as the primary.
+fn whole_shard(nodes: u8, hashes: u8) -> ShardConfig
+    requires { nodes ≤ 64 }
+    ensures { result ≡ whole_shard nodes hashes }
+{
+    let all = nodes_below(nodes);
+    ShardConfig {
+        region: Region {
+            hash_from: 0,
+            hash_to: hashes,
+            from: None,
+            to: None,
+        },
+        replicas: all,
+        voters: all,
+        primary: NodeId(0),
     }
 }
 

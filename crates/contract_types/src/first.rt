@@ -1,7 +1,7 @@
 //! The contracts and branches that a table begins with.
 ghost use Rattle.std.specs.Prelude.{◌≡◌, ◌+◌, [], ◌∷◌, not, IsTrue, IfOk, OnOk};
 ghost use Rattle.contract_types.specs.Configs.{is_bad_region};
-ghost use Rattle.contract_types.specs.Tables.{IsKept, IsBegun, first_contract, first_contracts, first_id, first_birth, first_branches, zero_origin};
+ghost use Rattle.contract_types.specs.Tables.{IsKept, IsBegun, first_contract, first_contracts, setup_id, first_id, first_birth, first_branches, zero_origin};
 
 use crate::table::add_branch;
 use crate::{Contract, Contracts, Holder, ShardConfig, TableConfig};
@@ -11,8 +11,8 @@ use region_map::bound::is_known;
 use region_map::{Id, NodeId, Region, RegionMap};
 use std::alloc::Global;
 
-/// The contract that a shard begins with.
-fn first_contract(alloc: Global, place: u64, shard: &ShardConfig) -> Result<Contract, OutOfMemory>
+/// The contract that the shard of a place, from 0, begins with.
+pub fn first_contract(alloc: Global, place: u64, shard: &ShardConfig) -> Result<Contract, OutOfMemory>
     ensures { IfOk result (λ contract. contract ≡ first_contract place shard.now) }
 {
     Ok(Contract {
@@ -48,6 +48,18 @@ pub(crate) fn first_contracts(
     Ok(Contracts::from(contracts))
 }
 
+/// The id that a node has made in its first life for the shard of a place, from 0: of the shard's first branch, and of
+/// what it asked for and opened of the sessions with which the table begins.
+pub fn setup_id(place: u64, node: NodeId) -> Id
+    ensures { result ≡ setup_id place node }
+{
+    Id {
+        node,
+        life: 1,
+        counter: place,
+    }
+}
+
 /// The zero version on a region.
 fn zero_origin(
     alloc: Global,
@@ -79,11 +91,7 @@ fn begin_branch(
     ensures history { OnOk result (history.new ≡ (first_id place shard.now, first_birth hashes shard.now) ∷ history.old) }
     ensures begun { OnOk result (IsBegun hashes (place + 1) history.new current.new) }
 {
-    let id = Id {
-        node: shard.primary,
-        life: 1,
-        counter: place,
-    };
+    let id = setup_id(place, shard.primary);
     let birth = BranchBirth {
         region: shard.region.copy(alloc)?,
         initial: 0,

@@ -16,6 +16,7 @@ pub use change::{Change, Contracts, Ids};
 pub use config::{ConfigRefused, MAX_SHARDS, ShardConfig, TableConfig};
 pub use contract::{Contract, Holder};
 pub use counts::Counts;
+pub use first::{first_contract, setup_id};
 pub use id_source::IdSource;
 pub use laws::each_pair_has_one_shard;
 pub use limits::Which;

@@ -1,38 +1,46 @@
 //! What a table begins with.
-ghost use Rattle.std.specs.Prelude.{◌≡◌, ◌<◌, IsTrue};
-ghost use Rattle.contract_types.specs.Setup.{SetupState, is_setup};
+ghost use Rattle.std.specs.Prelude.{◌≡◌, ◌<◌, IsTrue, IfOk};
+ghost use Rattle.contract_types.specs.Configs.{IsConfig};
+ghost use Rattle.contract_types.specs.Setup.{is_setup, whole};
 
+use crate::TableConfig;
+use memory::OutOfMemory;
+use std::alloc::Global;
 use std::marker::Model;
 
-/// How many nodes a table has and over how many hashes its keys are spread.
-///
-/// There is one shard of all keys, which every node replicates and votes for, with node 0 as its primary.
-#[derive(Clone, Copy, Debug, PartialEq, Eq)]
+/// The configuration with which a table begins: 1 to `region_map::MAX_NODES` nodes, and 1, 2, 4 or 8 hashes.
+#[derive(Debug, Drop)]
 pub struct Setup {
-    nodes: u8,
-    hashes: u8,
+    config: TableConfig,
 }
 
 impl Model for Setup {
-    ghost use Rattle.std.specs.Prelude.{IsTrue};
-    ghost use Rattle.contract_types.specs.Setup.{SetupState, is_setup};
+    ghost use Rattle.contract_types.specs.Setup.{SetupState, IsSetup};
 
     ghost Value = { SetupState };
 
-    ghost view = { λ a. record { nodes = a.nodes; hashes = a.hashes } };
+    ghost view = { λ a. a.config };
 
-    ghost invariant = { λ a. IsTrue (is_setup a.nodes a.hashes) };
-
-    ghost inverse = { λ s. record { nodes = s.nodes; hashes = s.hashes } };
+    ghost invariant = { λ a. IsSetup a.config };
 }
 
 impl Setup {
-    /// A table of these nodes, numbered from 0, and hashes.
-    pub fn new(nodes: u8, hashes: u8) -> Setup
-        requires { IsTrue (is_setup nodes hashes) }
-        ensures { result ≡ record { nodes = nodes; hashes = hashes } }
+    /// A table that begins with this configuration.
+    pub fn new(config: TableConfig) -> Setup
+        requires { IsTrue (is_setup config.nodes config.hashes) }
+        ensures { result ≡ config }
     {
-        Setup { nodes, hashes }
+        let _nodes = config.nodes();
+        Setup { config }
+    }
+
+    /// A table of one shard of all keys, which every node keeps and votes for, with node 0 as its primary.
+    pub fn whole(alloc: Global, nodes: u8, hashes: u8) -> Result<Setup, OutOfMemory>
+        requires { IsTrue (is_setup nodes hashes) }
+        ensures { IfOk result (λ setup. setup ≡ whole nodes hashes) }
+    {
+        let config = TableConfig::whole(alloc, nodes, hashes)?;
+        Ok(Setup::new(config))
     }
 
     /// How many nodes the table has: 1 to `region_map::MAX_NODES`.
@@ -41,7 +49,7 @@ impl Setup {
         ensures some { 0 < result }
         ensures few { result < 8 }
     {
-        self.nodes
+        self.config.nodes()
     }
 
     /// How many hashes the keys of the table have: 1, 2, 4 or 8.
@@ -49,6 +57,23 @@ impl Setup {
         ensures value { result ≡ self.now.hashes }
         ensures some { 0 < result }
     {
-        self.hashes
+        self.config.hashes()
+    }
+
+    /// The configuration.
+    pub fn config(&self) -> &TableConfig
+        ensures value { result.now ≡ self.now }
+        ensures config { IsConfig self.now }
+    {
+        let _nodes = self.config.nodes();
+        &self.config
+    }
+
+    /// The same setup again.
+    pub fn copy(&self, alloc: Global) -> Result<Setup, OutOfMemory>
+        ensures { IfOk result (λ setup. setup ≡ self.now) }
+    {
+        let config = self.config.copy(alloc)?;
+        Ok(Setup { config })
     }
 }

@@ -1,14 +1,15 @@
 -- The node machine: what a node begins with, and one step of it.
-use Rattle.std.specs.Prelude.{ℕ, zero, suc, ◌==◌, Bool, false, ◌&&◌, nat_lt, List, [], ◌∷◌, ◌++◌, Option, Some, None, is_some, if◌then◌else◌}
+use Rattle.std.specs.Prelude.{ℕ, ◌+◌, ◌==◌, Bool, false, not, ◌&&◌, nat_lt, List, [], ◌∷◌, ◌++◌, Option, Some, None, if◌then◌else◌}
+use Rattle.std.specs.List.{list_any}
 use Rattle.region_map.specs.declared.id.NodeId.{NodeId}
-use Rattle.region_map.specs.declared.id.Id.{Id}
-use Rattle.region_map.specs.declared.region.Region.{Region}
-use Rattle.region_map.specs.Nodes.{node_id}
+use Rattle.region_map.specs.Nodes.{node_id, has}
+use Rattle.region_map.specs.Maps.{Pieced}
+use Rattle.branch_history.specs.declared.version.Version.{Version}
 use Rattle.register_laws.specs.declared.operation.OpId.{OpId}
 use Rattle.register_laws.specs.declared.operation.Op.{Op}
 use Rattle.contract_types.specs.Setup.{SetupState}
-use Rattle.contract_types.specs.declared.contract.Contract.{Contract}
-use Rattle.exec_types.specs.declared.message.SessionName.{SessionName}
+use Rattle.contract_types.specs.declared.config.ShardConfig.{ShardConfig}
+use Rattle.contract_types.specs.Tables.{first_contract, first_id}
 use Rattle.exec_types.specs.declared.message.Message.{Message}
 use Rattle.exec_types.specs.declared.message.Message.TheVariants as message
 use Rattle.exec_types.specs.declared.message.Got.{Got}
@@ -16,82 +17,53 @@ use Rattle.exec_types.specs.declared.message.Stream.{Stream}
 use Rattle.exec_types.specs.declared.input.Input.{Input}
 use Rattle.exec_types.specs.declared.input.Input.TheVariants.{Request, GiveUp, Deliver}
 use Rattle.exec_types.specs.declared.output.Output.{Output}
-use Rattle.store_plain.specs.Rows.{Rows}
-use Rattle.write_dispatch.specs.Dispatch.{Acks, no_acks, with_ack}
+use Rattle.store_api.specs.Rows.{Rows}
+use Rattle.store_api.specs.Versions.{point, replaced_map, zero_map}
 use Rattle.secondary_exec.specs.declared.following.Following.{Following}
-use Rattle.secondary_exec.specs.Stream.{FollowingStep, stream_row, stream_ends_numbers}
-use Rattle.primary_exec.specs.declared.session.Session.{Session}
-use Rattle.primary_exec.specs.Execution.{Execution, dispatch_ends_numbers, got_row, decided, decide_outs, give_up_row, give_up_outs}
+use Rattle.secondary_exec.specs.Stream.{setup_following}
+use Rattle.primary_exec.specs.Execution.{Execution, setup_execution}
 use Rattle.node_core.specs.declared.node.Brought.{Brought}
-use Rattle.node_core.specs.Parts.{request_primary, request_rows, request_outs}
+use Rattle.node_core.specs.Parts.{Requested, Streamed, is_for, request_all, requests_end_numbers, stream_all, streams_end_numbers, got_all, give_up_all, give_up_all_outs, decide_all, decide_all_outs}
 
--- a node: its rows, and the execution or the following that its contract gives it
+-- a node: its rows and the versions of all keys, and the executions and followings that its contracts give it, in
+-- table order
 pub record NodeState : Type 0 where
   pub me : NodeId
   pub setup : SetupState
   pub rows : Rows
-  pub primary : Option Execution
-  pub following : Option Following
+  pub versions : Pieced Version
+  pub executions : List Execution
+  pub followings : List Following
 
--- ---- what a node begins with: one contract of all keys, with node 0 as its primary
+-- ---- what a node begins with: of each shard its part, by the shard's place
 
--- an id that this node made in its first life for the first shard
-abbrev pub first_id : ℕ → Id
-first_id n = record { node = node_id n; life = 1; counter = 0 }
+-- a shard has the node as its primary
+abbrev pub is_led : ℕ → ShardConfig → Bool
+is_led n s = s.primary.0 == n
 
--- the numbers below n
-abbrev pub nodes_below : ℕ → List ℕ
-nodes_below zero = []
-nodes_below (suc n) = nodes_below n ++ n ∷ []
+-- a shard has the node as a replica beside its primary
+abbrev pub is_followed : ℕ → ShardConfig → Bool
+is_followed n s = has s.replicas n && not (is_led n s)
 
-abbrev pub all_keys : ℕ → Region
-all_keys hashes = record { hash_from = 0; hash_to = hashes; from = None; to = None }
+-- the executions of the shards that have the node as their primary
+abbrev pub executions_from : ℕ → ℕ → List ShardConfig → List Execution
+executions_from n place [] = []
+executions_from n place (s ∷ ss) =
+    if is_led n s then setup_execution (first_contract place s) s.primary place ∷ executions_from n (place + 1) ss
+    else executions_from n (place + 1) ss
 
-abbrev pub setup_contract : SetupState → Contract
-setup_contract setup =
-    record {
-      id = record { node = node_id 0; life = 0; counter = 0 };
-      region = all_keys setup.hashes;
-      replicas = nodes_below setup.nodes;
-      voters = nodes_below setup.nodes;
-      temp_voters = None;
-      primary = Some (record { server = node_id 0; hand_over = None });
-      since = 0;
-      tenure = 0;
-    }
+-- the followings of the shards that have the node as a replica beside their primary
+abbrev pub followings_from : ℕ → ℕ → List ShardConfig → List Following
+followings_from n place [] = []
+followings_from n place (s ∷ ss) =
+    if is_followed n s then setup_following (first_contract place s) s.primary (node_id n) place ∷ followings_from n (place + 1) ss
+    else followings_from n (place + 1) ss
 
--- the session of a secondary with node 0
-abbrev pub setup_session_name : ℕ → SessionName
-setup_session_name n = record { asked = first_id n; opened = first_id 0 }
-
-abbrev pub setup_session : ℕ → Session
-setup_session n = record { server = node_id n; name = setup_session_name n; sent = 1; acked = 1 }
-
--- the sessions with the nodes from 1 up to and without n
-abbrev pub setup_sessions : ℕ → List Session
-setup_sessions zero = []
-setup_sessions (suc zero) = []
-setup_sessions (suc (suc n)) = setup_sessions (suc n) ++ setup_session (suc n) ∷ []
-
--- these nodes stand at timestamp 0
-abbrev pub setup_acks : ℕ → Acks
-setup_acks zero = no_acks
-setup_acks (suc zero) = no_acks
-setup_acks (suc (suc n)) = with_ack (setup_acks (suc n)) (suc n) 0 0
-
-abbrev pub setup_execution : SetupState → Execution
-setup_execution setup =
-    record {
-      contract = setup_contract setup;
-      me = node_id 0;
-      branch = first_id 0;
-      last = 0;
-      dispatch = record { waiting = []; acks = setup_acks setup.nodes };
-      sessions = setup_sessions setup.nodes;
-    }
-
-abbrev pub setup_following : ℕ → Following
-setup_following n = record { primary = node_id 0; session = setup_session_name n; got = 1; position = 0 }
+-- a replica stands at the first branch of its shards, any other node at the zero version
+abbrev pub versions_from : ℕ → ℕ → List ShardConfig → Pieced Version → Pieced Version
+versions_from n place [] versions = versions
+versions_from n place (s ∷ ss) versions =
+    versions_from n (place + 1) ss (if has s.replicas n then replaced_map s.region (point (first_id place s) 0) versions else versions)
 
 abbrev pub begin_node : SetupState → ℕ → NodeState
 begin_node setup n =
@@ -99,8 +71,9 @@ begin_node setup n =
       me = node_id n;
       setup = setup;
       rows = [];
-      primary = if n == 0 then Some (setup_execution setup) else None;
-      following = if n == 0 then None else Some (setup_following n);
+      versions = versions_from n 0 setup.shards (zero_map setup.hashes);
+      executions = executions_from n 0 setup.shards;
+      followings = followings_from n 0 setup.shards;
     }
 
 -- ---- one step
@@ -115,34 +88,30 @@ silent s = record { node = s; outs = [] }
 
 -- whether the node serves a key: the contract of the key names it primary, and its execution is started
 abbrev pub serves : NodeState → List ℕ → Bool
-serves s key = is_some s.primary
+serves s key = list_any (is_for s.setup.hashes key) s.executions
 
-abbrev pub with_following : NodeState → FollowingStep → Stepped
-with_following s step = record { node = record s { following = Some step.following; rows = step.rows }; outs = step.outs }
+abbrev pub with_requested : NodeState → Requested → Stepped
+with_requested s r = record { node = record s { executions = r.executions; rows = r.rows; versions = r.versions }; outs = r.outs }
 
--- a primary dispatches the operation; any other node does not serve the key
+abbrev pub with_streamed : NodeState → Streamed → Stepped
+with_streamed s r = record { node = record s { followings = r.followings; rows = r.rows; versions = r.versions }; outs = r.outs }
+
+-- a primary of the key dispatches the operation; any other node does not serve the key
 abbrev pub request_row : NodeState → OpId → List ℕ → Op → Stepped
-request_row s op key what =
-    record {
-      node = record s { primary = request_primary s.primary s.rows op key what; rows = request_rows s.primary s.rows op key what };
-      outs = request_outs s.primary s.rows op key what;
-    }
+request_row s op key what = with_requested s (request_all s.setup.hashes s.executions s.rows s.versions op key what)
 
-abbrev pub give_up : NodeState → Option Execution → OpId → Stepped
-give_up s None op = silent s
-give_up s (Some x) op = record { node = record s { primary = Some (give_up_row x op) }; outs = give_up_outs x op }
+abbrev pub give_up : NodeState → OpId → Stepped
+give_up s op = record { node = record s { executions = give_up_all s.executions op }; outs = give_up_all_outs s.executions op }
 
-abbrev pub take_stream : NodeState → Option Following → NodeId → Stream → Stepped
-take_stream s None from stream = silent s
-take_stream s (Some f) from stream = with_following s (stream_row f s.rows from stream 0)
+abbrev pub take_stream : NodeState → NodeId → Stream → Stepped
+take_stream s from stream = with_streamed s (stream_all s.followings s.rows s.versions from stream 0)
 
-abbrev pub take_got : NodeState → Option Execution → NodeId → Got → Stepped
-take_got s None from got = silent s
-take_got s (Some x) from got = silent (record s { primary = Some (got_row x from got) })
+abbrev pub take_got : NodeState → NodeId → Got → Stepped
+take_got s from got = silent (record s { executions = got_all s.executions from got })
 
 abbrev pub message_row : NodeState → NodeId → Message → Stepped
-message_row s from (message.Stream stream) = take_stream s s.following from stream
-message_row s from (message.Got got) = take_got s s.primary from got
+message_row s from (message.Stream stream) = take_stream s from stream
+message_row s from (message.Got got) = take_got s from got
 
 -- the sender of a message is a node of the table; a message that is not well formed, which no run has, does nothing
 abbrev pub is_well_formed : NodeState → Brought → Bool
@@ -155,30 +124,25 @@ brought_row s (Some b) = if is_well_formed s b then message_row s b.from b.messa
 -- the row of the input
 abbrev pub input_row : NodeState → Input → Option Brought → Stepped
 input_row s (Request op key what) brought = request_row s op key what
-input_row s (GiveUp op) brought = give_up s s.primary op
+input_row s (GiveUp op) brought = give_up s op
 input_row s (Deliver number) brought = brought_row s brought
 
-abbrev pub end_step : Stepped → Option Execution → Stepped
-end_step step None = step
-end_step step (Some x) =
-    record { node = record step.node { primary = Some (decided x) }; outs = step.outs ++ decide_outs x }
+-- each pending operation that is decided is answered
+abbrev pub end_step : Stepped → Stepped
+end_step step =
+    record {
+      node = record step.node { executions = decide_all step.node.executions };
+      outs = step.outs ++ decide_all_outs step.node.executions;
+    }
 
 -- the row of the input, and then each pending operation that is decided is answered
 abbrev pub node_step : NodeState → Input → Option Brought → Stepped
-node_step s input brought = let step = input_row s input brought in end_step step step.node.primary
+node_step s input brought = end_step (input_row s input brought)
 
 -- ---- where there is no step
 
-abbrev pub request_ends_numbers : Option Execution → Bool
-request_ends_numbers None = false
-request_ends_numbers (Some x) = dispatch_ends_numbers x
-
-abbrev pub take_stream_ends_numbers : Option Following → NodeId → Stream → Bool
-take_stream_ends_numbers None from stream = false
-take_stream_ends_numbers (Some f) from stream = stream_ends_numbers f from stream
-
 abbrev pub message_ends_numbers : NodeState → NodeId → Message → Bool
-message_ends_numbers s from (message.Stream stream) = take_stream_ends_numbers s.following from stream
+message_ends_numbers s from (message.Stream stream) = streams_end_numbers s.followings from stream
 message_ends_numbers s from (message.Got got) = false
 
 abbrev pub brought_ends_numbers : NodeState → Option Brought → Bool
@@ -187,6 +151,6 @@ brought_ends_numbers s (Some b) = is_well_formed s b && message_ends_numbers s b
 
 -- a number that the step makes by adding would be one that none reaches: there is no step
 abbrev pub ends_numbers : NodeState → Input → Option Brought → Bool
-ends_numbers s (Request op key what) brought = request_ends_numbers s.primary
+ends_numbers s (Request op key what) brought = requests_end_numbers s.setup.hashes s.executions key
 ends_numbers s (GiveUp op) brought = false
 ends_numbers s (Deliver number) brought = brought_ends_numbers s brought

@@ -3,10 +3,14 @@ use Rattle.std.specs.Prelude.{◌≡◌, ℕ, ◌==◌, ◌+◌, ◌-◌, ◌^�
 use Rattle.std.specs.List.{All, list_any}
 use Rattle.region_map.specs.declared.id.NodeId.{NodeId}
 use Rattle.region_map.specs.declared.id.Id.{Id}
+use Rattle.region_map.specs.Maps.{Pieced}
+use Rattle.region_map.specs.Nodes.{node_id}
+use Rattle.branch_history.specs.declared.version.Version.{Version}
 use Rattle.register_laws.specs.declared.operation.OpId.{OpId}
 use Rattle.register_laws.specs.declared.operation.Op.{Op}
 use Rattle.register_laws.specs.Register.{reply_of, state_after, writes}
 use Rattle.contract_types.specs.declared.contract.Contract.{Contract}
+use Rattle.contract_types.specs.Tables.{setup_id}
 use Rattle.exec_types.specs.declared.message.SessionName.{SessionName}
 use Rattle.exec_types.specs.declared.message.Got.{Got}
 use Rattle.exec_types.specs.declared.message.Part.{Part}
@@ -15,10 +19,12 @@ use Rattle.exec_types.specs.declared.message.Message.TheVariants as message
 use Rattle.exec_types.specs.declared.outcome.Outcome.TheVariants.{Done, NoMajority}
 use Rattle.exec_types.specs.declared.output.Output.{Output}
 use Rattle.exec_types.specs.declared.output.Output.TheVariants.{Message, Dispatched, Answer}
-use Rattle.exec_types.specs.Sessions.{same_session}
-use Rattle.store_plain.specs.Rows.{Rows, with_row, value_of}
+use Rattle.exec_types.specs.Parts.{effect_of}
+use Rattle.exec_types.specs.Sessions.{same_session, setup_session_name}
+use Rattle.store_api.specs.Rows.{Rows, value_of}
+use Rattle.store_api.specs.Versions.{advanced_rows, advanced_map}
 use Rattle.write_dispatch.specs.declared.decided.Decided.{Decided}
-use Rattle.write_dispatch.specs.Dispatch.{DispatchState, Acks, with_pending, with_ack, all_below, counts_of, is_decided, pending_of, without_op}
+use Rattle.write_dispatch.specs.Dispatch.{DispatchState, Acks, no_acks, with_pending, with_ack, all_below, counts_of, is_decided, pending_of, without_op}
 use Rattle.primary_exec.specs.declared.session.Session.{Session}
 
 -- a started execution: its contract, the branch that it writes, the last timestamp that it took, what is
@@ -31,10 +37,11 @@ pub record Execution : Type 0 where
   pub dispatch : DispatchState
   pub sessions : List Session
 
--- an execution after its row, the rows of its node, and what it gave
+-- an execution after its row, the rows and the versions of its node, and what it gave
 pub record PrimaryStep : Type 0 where
   pub execution : Execution
   pub rows : Rows
+  pub versions : Pieced Version
   pub outs : List Output
 
 -- no timestamp and no number of a part reaches the end of the numbers, and what waits took its timestamp already
@@ -50,6 +57,20 @@ joined x server name =
       sessions = x.sessions ++ record { server = server; name = name; sent = 1; acked = 1 } ∷ [];
       dispatch = record x.dispatch { acks = with_ack x.dispatch.acks server.0 0 0 };
     }
+
+-- an execution that has taken no timestamp and has no sessions
+abbrev pub begun : Contract → NodeId → Id → Execution
+begun contract me branch =
+    record { contract = contract; me = me; branch = branch; last = 0; dispatch = record { waiting = []; acks = no_acks }; sessions = [] }
+
+-- the other servers join, in the shard of a place
+abbrev pub join_all : ℕ → Execution → List ℕ → Execution
+join_all place x [] = x
+join_all place x (n ∷ ns) = join_all place (if n == x.me.0 then x else joined x (node_id n) (setup_session_name place x.me (node_id n))) ns
+
+-- what a primary begins with, in the shard of a place
+abbrev pub setup_execution : Contract → NodeId → ℕ → Execution
+setup_execution contract me place = join_all place (begun contract me (setup_id place me)) contract.replicas
 
 -- ---- dispatch
 
@@ -72,19 +93,10 @@ abbrev pub part_of : Option (List ℕ) → ℕ → List ℕ → Op → Part
 part_of before at key what =
     if writes before what then Write at key (record { value = state_after before what; recency = at }) else Sync at
 
--- the rows with what a part writes
-abbrev pub with_written : Rows → Part → Rows
-with_written rows (Write at key row) = with_row rows key row
-with_written rows (Sync at) = rows
-
--- the rows after an operation at a timestamp on the state before it
-abbrev pub rows_after : Rows → Option (List ℕ) → ℕ → List ℕ → Op → Rows
-rows_after rows before at key what = with_written rows (part_of before at key what)
-
--- an operation takes the next timestamp, is applied to the primary's own rows, sent to the secondaries, and is
--- pending with the register's reply
-abbrev pub dispatch_row : Execution → Rows → OpId → List ℕ → Op → PrimaryStep
-dispatch_row x rows op key what =
+-- an operation takes the next timestamp: the region comes to it in the primary's own store, the secondaries are
+-- told, and it is pending with the register's reply
+abbrev pub dispatch_row : Execution → Rows → Pieced Version → OpId → List ℕ → Op → PrimaryStep
+dispatch_row x rows versions op key what =
     record {
       execution =
           record x {
@@ -92,7 +104,8 @@ dispatch_row x rows op key what =
             dispatch = with_pending x.dispatch (Some op) (x.last + 1) (reply_of (value_of rows key) what);
             sessions = map with_sent (filter has_room x.sessions);
           };
-      rows = rows_after rows (value_of rows key) (x.last + 1) key what;
+      rows = advanced_rows (effect_of (part_of (value_of rows key) (x.last + 1) key what)) x.contract.region x.branch (x.last + 1) versions rows;
+      versions = advanced_map x.contract.region x.branch (x.last + 1) versions;
       outs =
           map (sends (part_of (value_of rows key) (x.last + 1) key what)) (filter has_room x.sessions)
           ++ Dispatched op key x.branch (x.last + 1) ∷ [];

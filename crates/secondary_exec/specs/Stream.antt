@@ -1,30 +1,38 @@
 -- What a secondary does with a part of a stream.
 use Rattle.std.specs.Prelude.{ℕ, ◌==◌, ◌+◌, ◌^◌, Bool, ◌&&◌, not, nat_lt, nat_le, List, [], ◌∷◌, Some, if◌then◌else◌}
 use Rattle.region_map.specs.declared.id.NodeId.{NodeId}
-use Rattle.exec_types.specs.Sessions.{same_session}
+use Rattle.exec_types.specs.Parts.{timestamp_of, effect_of}
+use Rattle.exec_types.specs.Sessions.{same_session, setup_session_name}
 use Rattle.exec_types.specs.declared.message.Stream.{Stream}
-use Rattle.exec_types.specs.declared.message.Part.{Part}
-use Rattle.exec_types.specs.declared.message.Part.TheVariants.{Write, Sync}
 use Rattle.exec_types.specs.declared.output.Output.{Output}
 use Rattle.exec_types.specs.declared.message.Message.TheVariants as message
 use Rattle.exec_types.specs.declared.output.Output.TheVariants.{Message}
-use Rattle.store_plain.specs.Rows.{Rows, with_row}
+use Rattle.region_map.specs.Maps.{Pieced}
+use Rattle.branch_history.specs.declared.version.Version.{Version}
+use Rattle.contract_types.specs.declared.contract.Contract.{Contract}
+use Rattle.contract_types.specs.Tables.{setup_id}
+use Rattle.store_api.specs.Rows.{Rows}
+use Rattle.store_api.specs.Versions.{advanced_rows, advanced_map}
 use Rattle.secondary_exec.specs.declared.following.Following.{Following}
 
--- a secondary after its row, its rows, and what it gave
+-- a secondary after its row, the rows and the versions of its node, and what it gave
 pub record FollowingStep : Type 0 where
   pub following : Following
   pub rows : Rows
+  pub versions : Pieced Version
   pub outs : List Output
 
-abbrev pub timestamp_of : Part → ℕ
-timestamp_of (Write at key row) = at
-timestamp_of (Sync at) = at
-
--- the rows after a part was applied
-abbrev pub with_part : Rows → Part → Rows
-with_part rows (Write at key row) = with_row rows key row
-with_part rows (Sync at) = rows
+-- what a secondary begins with, in the shard of a place: it is joined, and has the first part of its session
+abbrev pub setup_following : Contract → NodeId → NodeId → ℕ → Following
+setup_following contract primary me place =
+    record {
+      primary = primary;
+      region = contract.region;
+      branch = setup_id place primary;
+      session = setup_session_name place primary me;
+      got = 1;
+      position = 0;
+    }
 
 -- how far the secondary came, as it tells the primary
 abbrev pub acknowledgement : Following → ℕ → Output
@@ -43,18 +51,28 @@ is_next f stream = (stream.number == f.got + 1) && nat_lt f.position (timestamp_
 abbrev pub is_ours : Following → NodeId → Stream → Bool
 is_ours f from stream = (from.0 == f.primary.0) && same_session stream.session f.session
 
-abbrev pub quiet : Following → Rows → FollowingStep
-quiet f rows = record { following = f; rows = rows; outs = [] }
+abbrev pub quiet : Following → Rows → Pieced Version → FollowingStep
+quiet f rows versions = record { following = f; rows = rows; versions = versions; outs = [] }
 
-abbrev pub take_part : Following → Rows → Stream → ℕ → FollowingStep
-take_part f rows stream view =
-    if nat_le stream.number f.got then record { following = f; rows = rows; outs = acknowledgement f view ∷ [] }
-    else if is_next f stream then record { following = applied f stream; rows = with_part rows stream.part; outs = acknowledgement (applied f stream) view ∷ [] }
-    else quiet f rows
+-- the next part brings the region to its timestamp, with its row
+abbrev pub apply_part : Following → Rows → Pieced Version → Stream → ℕ → FollowingStep
+apply_part f rows versions stream view =
+    record {
+      following = applied f stream;
+      rows = advanced_rows (effect_of stream.part) f.region f.branch (timestamp_of stream.part) versions rows;
+      versions = advanced_map f.region f.branch (timestamp_of stream.part) versions;
+      outs = acknowledgement (applied f stream) view ∷ [];
+    }
+
+abbrev pub take_part : Following → Rows → Pieced Version → Stream → ℕ → FollowingStep
+take_part f rows versions stream view =
+    if nat_le stream.number f.got then record { following = f; rows = rows; versions = versions; outs = acknowledgement f view ∷ [] }
+    else if is_next f stream then apply_part f rows versions stream view
+    else quiet f rows versions
 
 -- the next part is applied and acknowledged, an earlier one acknowledged again, any other does nothing
-abbrev pub stream_row : Following → Rows → NodeId → Stream → ℕ → FollowingStep
-stream_row f rows from stream view = if is_ours f from stream then take_part f rows stream view else quiet f rows
+abbrev pub stream_row : Following → Rows → Pieced Version → NodeId → Stream → ℕ → FollowingStep
+stream_row f rows versions from stream view = if is_ours f from stream then take_part f rows versions stream view else quiet f rows versions
 
 -- the part that it would apply has a number that no part reaches
 abbrev pub stream_ends_numbers : Following → NodeId → Stream → Bool

@@ -1,13 +1,15 @@
 -- The versions that a store has: a region map over all keys.
-use Rattle.std.specs.Prelude.{◌≡◌, ℕ, Bool, false, ◌&&◌, List, nat_lt, Option, Some, None, if◌then◌else◌}
+use Rattle.std.specs.Prelude.{◌≡◌, ℕ, Bool, false, ◌&&◌, List, ◌++◌, nat_lt, Option, Some, None, if◌then◌else◌}
 use Rattle.std.specs.Option.{is_some}
 use Rattle.region_map.specs.declared.id.Id.{Id}
 use Rattle.region_map.specs.declared.region.Region.{Region}
 use Rattle.region_map.specs.Keys.{hash_of}
 use Rattle.region_map.specs.Regions.{in_region}
 use Rattle.region_map.specs.Maps.{Pieced, IsCanonical, value_at}
+use Rattle.region_map.specs.Made.{ends_of, cuts_of, made, constant_map, set_map}
 use Rattle.branch_history.specs.declared.version.Version.{Version}
-use Rattle.branch_history.specs.Paths.{is_branch}
+use Rattle.branch_history.specs.Paths.{is_branch, zero}
+use Rattle.branch_history.specs.Equal.{same_version}
 use Rattle.store_api.specs.declared.Item.{Item}
 use Rattle.store_api.specs.Rows.{Rows, AreOrdered, with_item}
 
@@ -38,6 +40,18 @@ advanced part branch at h k version = if in_region part h k && is_behind branch 
 -- the version of a pair, after the pairs of a part got this one
 abbrev pub replaced : Region → Version → ℕ → List ℕ → Option Version → Option Version
 replaced part new h k version = if in_region part h k && is_some version then Some new else version
+
+-- the versions of all keys, after those of a part that are behind a point of the branch came to it
+abbrev pub advanced_map : Region → Id → ℕ → Pieced Version → Pieced Version
+advanced_map part branch at m = made same_version m.hashes (ends_of part ++ cuts_of m.pieces) (λ h k. advanced part branch at h k (value_at m.pieces h k))
+
+-- the versions of all keys, after those of a part became this one
+abbrev pub replaced_map : Region → Version → Pieced Version → Pieced Version
+replaced_map part new m = set_map same_version part new m
+
+-- the zero version at each key
+abbrev pub zero_map : ℕ → Pieced Version
+zero_map hashes = constant_map same_version (record { hash_from = 0; hash_to = hashes; from = None; to = None }) hashes zero
 
 -- the version of a key, at the pair of its own hash and itself
 abbrev pub version_of : Pieced Version → List ℕ → Option Version

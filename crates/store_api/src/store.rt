@@ -2,12 +2,14 @@
 ghost use Rattle.std.specs.Prelude.{◌≡◌, ℕ, ◌<◌, true, List, Some, None, take, IsSome, IfOk, OnOk, if◌then◌else◌};
 ghost use Rattle.std.specs.List.{All};
 ghost use Rattle.std.specs.Option.{option_copied};
+ghost use Rattle.branch_history.specs.Equal.{same_version};
+ghost use Rattle.region_map.specs.Made.{mask_map};
 ghost use Rattle.region_map.specs.Regions.{in_region};
 ghost use Rattle.region_map.specs.Maps.{Pieced, value_at};
 ghost use Rattle.branch_history.specs.declared.version.Version.{Version};
 ghost use Rattle.branch_history.specs.Paths.{zero};
 ghost use Rattle.store_api.specs.Rows.{Rows, row_of, has_key, with_items, rows_outside, newer_keys};
-ghost use Rattle.store_api.specs.Versions.{IsStored, point, advanced, replaced, version_of, advanced_rows};
+ghost use Rattle.store_api.specs.Versions.{IsStored, point, advanced, replaced, version_of, advanced_rows, advanced_map, replaced_map};
 
 use crate::{Item, Row};
 use branch_history::Version;
@@ -43,7 +45,8 @@ pub trait Store: Drop + Sized {
     fn versions(&self, alloc: Global, part: &Region) -> Result<RegionMap<Version>, OutOfMemory>
         ensures hashes { IfOk result (λ m. m.hashes ≡ (versions self.now).hashes) }
         ensures at { IfOk result (λ m. (h : ℕ) (k : List ℕ) → value_at m.pieces h k
-            ≡ (if in_region part.now h k then value_at (versions self.now).pieces h k else None)) };
+            ≡ (if in_region part.now h k then value_at (versions self.now).pieces h k else None)) }
+        ensures made { IfOk result (λ m. m ≡ mask_map same_version part.now (versions self.now)) };
 
     /// Moves the pieces of a part that stand at a lesser timestamp of the branch on to this one. Where the
     /// effect's key lies in such a piece, it gets the effect's row, or loses the one that it has.
@@ -61,7 +64,8 @@ pub trait Store: Drop + Sized {
         ensures rows { OnOk result (rows self.new ≡ advanced_rows effect part.now branch at (versions self.old) (rows self.old)) }
         ensures hashes { OnOk result ((versions self.new).hashes ≡ (versions self.old).hashes) }
         ensures versions { OnOk result ((h : ℕ) (k : List ℕ) → value_at (versions self.new).pieces h k
-            ≡ advanced part.now branch at h k (value_at (versions self.old).pieces h k)) };
+            ≡ advanced part.now branch at h k (value_at (versions self.old).pieces h k)) }
+        ensures made { OnOk result (versions self.new ≡ advanced_map part.now branch at (versions self.old)) };
 
     /// Lets a part go on from its rows in a branch that begins at this timestamp.
     fn start_branch(
@@ -74,7 +78,8 @@ pub trait Store: Drop + Sized {
         ensures rows { OnOk result (rows self.new ≡ rows self.old) }
         ensures hashes { OnOk result ((versions self.new).hashes ≡ (versions self.old).hashes) }
         ensures versions { OnOk result ((h : ℕ) (k : List ℕ) → value_at (versions self.new).pieces h k
-            ≡ replaced part.now (point branch initial) h k (value_at (versions self.old).pieces h k)) };
+            ≡ replaced part.now (point branch initial) h k (value_at (versions self.old).pieces h k)) }
+        ensures made { OnOk result (versions self.new ≡ replaced_map part.now (point branch initial) (versions self.old)) };
 
     /// The first so many keys of a part, in the order of the keys, whose recency lies above the bound that the
     /// map gives them.
@@ -103,12 +108,14 @@ pub trait Store: Drop + Sized {
         ensures rows { OnOk result (rows self.new ≡ with_items (rows self.old) items.now) }
         ensures hashes { OnOk result ((versions self.new).hashes ≡ (versions self.old).hashes) }
         ensures versions { OnOk result ((h : ℕ) (k : List ℕ) → value_at (versions self.new).pieces h k
-            ≡ replaced part.now version.now h k (value_at (versions self.old).pieces h k)) };
+            ≡ replaced part.now version.now h k (value_at (versions self.old).pieces h k)) }
+        ensures made { OnOk result (versions self.new ≡ replaced_map part.now version.now (versions self.old)) };
 
     /// Takes all rows of a part, which is at the zero version then.
     fn erase_range(&mut self, alloc: Global, part: &Region) -> Result<(), OutOfMemory>
         ensures rows { OnOk result (rows self.new ≡ rows_outside part.now (versions self.old).hashes (rows self.old)) }
         ensures hashes { OnOk result ((versions self.new).hashes ≡ (versions self.old).hashes) }
         ensures versions { OnOk result ((h : ℕ) (k : List ℕ) → value_at (versions self.new).pieces h k
-            ≡ replaced part.now zero h k (value_at (versions self.old).pieces h k)) };
+            ≡ replaced part.now zero h k (value_at (versions self.old).pieces h k)) }
+        ensures made { OnOk result (versions self.new ≡ replaced_map part.now zero (versions self.old)) };
 }

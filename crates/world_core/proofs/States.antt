@@ -9,7 +9,7 @@ use Rattle.std.specs.Ordering.{nat_cmp}
 use Rattle.std.specs.BTreeSet.{BTreeSet, contains}
 use Rattle.region_map.specs.declared.id.NodeId.{NodeId}
 use Rattle.register_laws.specs.declared.operation.OpId.{OpId}
-use Rattle.contract_types.specs.Setup.{SetupState}
+use Rattle.contract_types.specs.Setup.{SetupState, nodes_below}
 use Rattle.region_map.specs.declared.step_refused.StepRefused.{StepRefused}
 use Rattle.region_map.specs.declared.step_refused.StepRefused.TheVariants.{NumbersEnd}
 use Rattle.region_map.specs.declared.step_refused.StepRefused.TheVariants as step
@@ -19,7 +19,7 @@ use Rattle.exec_types.specs.declared.input.Input.TheVariants.{Request, GiveUp, D
 use Rattle.exec_types.specs.declared.output.Output.{Output}
 use Rattle.node_core.specs.declared.node.Brought.{Brought}
 use Rattle.node_core.specs.declared.journal.Entry.{Entry}
-use Rattle.node_core.specs.Step.{NodeState, nodes_below, node_step, ends_numbers}
+use Rattle.node_core.specs.Step.{NodeState, node_step, ends_numbers}
 use Rattle.world_core.specs.declared.envelope.Envelope.{Envelope}
 use Rattle.world_core.specs.declared.push_refused.PushRefused.{PushRefused}
 use Rattle.world_core.specs.declared.push_refused.PushRefused.TheVariants.{NoSuchNode, NotYours, OpKnown, JournalFull, OutOfMemory}

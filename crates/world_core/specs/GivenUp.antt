@@ -17,15 +17,19 @@ abbrev pub counts_pending : Execution → Option Decided → Option Counts
 counts_pending x None = None
 counts_pending x (Some d) = Some (counts_of x.dispatch.acks x.contract x.me.0 d.at)
 
--- the counts of an operation, where it is pending
-abbrev pub pending_counts : Option Execution → OpId → Option Counts
-pending_counts None op = None
-pending_counts (Some x) op = counts_pending x (pending_of x.dispatch.waiting op)
+abbrev pub or_counts : Option Counts → Option Counts → Option Counts
+or_counts None later = later
+or_counts (Some counts) later = Some counts
+
+-- the counts of an operation, where it is pending at one of these executions
+abbrev pub pending_counts : List Execution → OpId → Option Counts
+pending_counts [] op = None
+pending_counts (x ∷ xs) op = or_counts (counts_pending x (pending_of x.dispatch.waiting op)) (pending_counts xs op)
 
 -- the input gives the operation up, and at a node in this state it is pending with these counts
 abbrev pub IsGivenUpBy : NodeState → Input → OpId → Counts → Type 0
 IsGivenUpBy s (Request q key what) op counts = ⊥
-IsGivenUpBy s (GiveUp q) op counts = (q ≡ op) × (pending_counts s.primary op ≡ Some counts)
+IsGivenUpBy s (GiveUp q) op counts = (q ≡ op) × (pending_counts s.executions op ≡ Some counts)
 IsGivenUpBy s (Deliver number) op counts = ⊥
 
 -- an entry gives the operation up at a node where it is pending with these counts

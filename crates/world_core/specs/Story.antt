@@ -2,6 +2,9 @@
 use Rattle.std.specs.Prelude.{◌≡◌, ◌≢◌, ℕ, ◌+◌, Bool, true, false, not, ◌&&◌, ◌||◌, ◌⊎◌, nat_eq, List, [], ◌∷◌, ◌++◌, map, filter, Option, Some, None, if◌then◌else◌}
 use Rattle.std.specs.Cmp.Lexicographic.{pointwise}
 use Rattle.region_map.specs.declared.id.Id.{Id}
+use Rattle.region_map.specs.Keys.{hash_of}
+use Rattle.contract_types.specs.Setup.{SetupState}
+use Rattle.contract_types.specs.Tables.{branch_at, setup as table_of}
 use Rattle.register_laws.specs.declared.operation.OpId.{OpId}
 use Rattle.register_laws.specs.declared.operation.Op.{Op}
 use Rattle.register_laws.specs.declared.operation.Reply.{Reply}
@@ -15,7 +18,6 @@ use Rattle.exec_types.specs.declared.outcome.Outcome.TheVariants.{Done, NotServi
 use Rattle.exec_types.specs.declared.output.Output.{Output}
 use Rattle.exec_types.specs.declared.output.Output.TheVariants.{Message, Dispatched, Answer}
 use Rattle.node_core.specs.declared.journal.Entry.{Entry}
-use Rattle.node_core.specs.Step.{first_id}
 use Rattle.world_core.specs.Run.{requests}
 
 -- ---- answers
@@ -87,13 +89,21 @@ points (e ∷ past) = points past ++ points_of e.input e.outputs
 abbrev pub same_key : List ℕ → List ℕ → Bool
 same_key = pointwise nat_eq
 
--- whether a point lies on the path of the first branch, at a key
-abbrev pub is_on_path : List ℕ → Point → Bool
-is_on_path key p = same_key p.key key && same_id p.branch (first_id 0)
+-- the current branch of a key: each key has one from the beginning
+abbrev pub branch_of : SetupState → List ℕ → Option Id
+branch_of setup key = branch_at (table_of setup).history (hash_of key setup.hashes) key
+
+abbrev pub is_branch : Option Id → Id → Bool
+is_branch None id = false
+is_branch (Some branch) id = same_id branch id
+
+-- whether a point lies on the path of the current branch of a key
+abbrev pub is_on_path : SetupState → List ℕ → Point → Bool
+is_on_path setup key p = same_key p.key key && is_branch (branch_of setup key) p.branch
 
 -- the points of a key in the order of the path, which is that of their timestamps
-abbrev pub path : List Entry → List ℕ → List Point
-path past key = filter (is_on_path key) (points past)
+abbrev pub path : SetupState → List Entry → List ℕ → List Point
+path setup past key = filter (is_on_path setup key) (points past)
 
 -- a read stands in the story once it is done; any other operation once it is dispatched
 abbrev pub is_shown : List Entry → OpId → Op → Bool
@@ -106,8 +116,8 @@ abbrev pub call_of : Point → OpId × Op
 call_of p = (p.op, p.what)
 
 -- the operations on a key in the order in which they took effect, with the replies of the register
-abbrev pub story : List Entry → List ℕ → List Told
-story past key = told_from None (map call_of (filter (is_shown_point past) (path past key)))
+abbrev pub story : SetupState → List Entry → List ℕ → List Told
+story setup past key = told_from None (map call_of (filter (is_shown_point past) (path setup past key)))
 
 -- ---- register stories
 
@@ -158,11 +168,11 @@ is_shown_told past t = is_shown past t.op t.what
 
 -- what is done stays: the story of a shorter journal up to its last done operation is a prefix of the list,
 -- without the reads that were not done by then
-abbrev pub KeepsDone : List Entry → List ℕ → List Told → Type 0
-KeepsDone earlier key list =
-    (rest : List Told) × (filter (is_shown_told earlier) list ≡ up_to_done earlier (story earlier key) ++ rest)
+abbrev pub KeepsDone : SetupState → List Entry → List ℕ → List Told → Type 0
+KeepsDone setup earlier key list =
+    (rest : List Told) × (filter (is_shown_told earlier) list ≡ up_to_done earlier (story setup earlier key) ++ rest)
 
-pub record IsRegisterStory (past : List Entry) (key : List ℕ) (list : List Told) : Type 0 where
+pub record IsRegisterStory (setup : SetupState) (past : List Entry) (key : List ℕ) (list : List Told) : Type 0 where
   pub legal : IsLegal list
   -- each operation on the key that is done stands in it once, with the reply of its answer
   pub done : (op : OpId) (what : Op) (reply : Reply) (branch : Id) (timestamp : ℕ) → IsRequested past key op what → answer past op ≡ Some (Done reply branch timestamp)
@@ -171,4 +181,4 @@ pub record IsRegisterStory (past : List Entry) (key : List ℕ) (list : List Tol
   pub members : (t : Told) → IsIn list t → IsRequested past key t.op t.what × StandsOnce list t.op × (answer past t.op ≢ Some NotServing)
   -- an operation that was answered before another was requested stands before it
   pub order : (a b : OpId) → goes_before past a b ≡ true → has_told list a ≡ true → has_told list b ≡ true → stands_before list a b ≡ true
-  pub prefix : (later earlier : List Entry) → past ≡ later ++ earlier → KeepsDone earlier key list
+  pub prefix : (later earlier : List Entry) → past ≡ later ++ earlier → KeepsDone setup earlier key list

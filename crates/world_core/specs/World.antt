@@ -7,12 +7,12 @@ use Rattle.region_map.specs.declared.id.NodeId.{NodeId}
 use Rattle.region_map.specs.declared.step_refused.StepRefused.{StepRefused}
 use Rattle.region_map.specs.declared.step_refused.StepRefused.TheVariants as step
 use Rattle.register_laws.specs.declared.operation.OpId.{OpId}
-use Rattle.contract_types.specs.Setup.{SetupState}
+use Rattle.contract_types.specs.Setup.{SetupState, nodes_below}
 use Rattle.contract_types.specs.declared.limits.Which.TheVariants.{Numbers}
 use Rattle.exec_types.specs.declared.input.Input.{Input}
 use Rattle.exec_types.specs.declared.input.Input.TheVariants.{Request, GiveUp, Deliver}
 use Rattle.node_core.specs.declared.journal.Entry.{Entry}
-use Rattle.node_core.specs.Step.{NodeState, nodes_below, ends_numbers}
+use Rattle.node_core.specs.Step.{NodeState, ends_numbers}
 use Rattle.node_core.specs.Journal.{JournalState}
 use Rattle.world_core.specs.declared.envelope.Envelope.{Envelope}
 use Rattle.world_core.specs.declared.push_refused.PushRefused.{PushRefused}

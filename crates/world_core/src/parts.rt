@@ -2,9 +2,9 @@
 ghost use Rattle.std.specs.Prelude.{◌≡◌, ℕ, ◌==◌, ◌<◌, ◌↔◌, ◌⊎◌, ◌||◌, ◌&&◌, not, Some, None, false, true, ◌∷◌, OnOk, OnErr, IfOk, IfErr, IfSome, IsErrOf, IsTrue, List, map, length, nat_lt, slice_set, slice_index_or};
 ghost use Rattle.std.specs.Ordering.{nat_cmp};
 ghost use Rattle.std.specs.BTreeSet.{contains};
-ghost use Rattle.contract_types.specs.Setup.{SetupState};
+ghost use Rattle.contract_types.specs.Setup.{SetupState, nodes_below};
 ghost use Rattle.node_core.specs.declared.journal.Entry.{Entry};
-ghost use Rattle.node_core.specs.Step.{NodeState, begin_node, nodes_below, node_step, ends_numbers};
+ghost use Rattle.node_core.specs.Step.{NodeState, begin_node, node_step, ends_numbers};
 ghost use Rattle.register_laws.specs.declared.operation.OpId.{OpId};
 ghost use Rattle.world_core.specs.Run.{sent, brought, requests, is_requested, entry_of};
 ghost use Rattle.world_core.specs.Waiting.{delivers};

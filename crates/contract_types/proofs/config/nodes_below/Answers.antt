@@ -1,7 +1,7 @@
 use Rattle.std.proofs.Common.{ap, ◌∙◌}
 use Rattle.region_map.specs.Nodes.{with_member}
-use Rattle.node_core.proofs.Below.{with_member-nodes_below}
-use Rattle.node_core.proofs.setup_state.nodes_below.Goals as goal
+use Rattle.contract_types.proofs.Below.{with_member-nodes_below}
+use Rattle.contract_types.proofs.config.nodes_below.Goals as goal
 
 pub loop-node-preserved : goal.loop-node-preserved
 loop-node-preserved c = c.with-set.ensures ∙ ap (λ s. with_member s c.loop-node.node) c.loop-node.invariant ∙ with_member-nodes_below c.loop-node.node

@@ -3,7 +3,7 @@ use Rattle.std.proofs.Common.{◌≡◌, ℕ, zero, suc, ◌+◌, ◌<◌, ◌==
 use Rattle.std.proofs.lemmas.Bool.{le-ltb, ne_eqb}
 use Rattle.std.specs.List.{AllByRecursion}
 use Rattle.region_map.specs.Nodes.{with_member}
-use Rattle.node_core.specs.Step.{nodes_below}
+use Rattle.contract_types.specs.Setup.{nodes_below}
 
 abbrev pub AllBelow : ℕ → List ℕ → Type 0
 AllBelow n xs = AllByRecursion (λ k. k < n) xs
