@@ -22,7 +22,7 @@ below_push : (xs : List ℕ) (n : ℕ) → AllBelow n xs → AllBelow (suc n) (x
 below_push [] n h = (omega arith, tt)
 below_push (k ∷ ks) n h = (let below : k < n = h.0 in omega arith, below_push ks n h.1)
 
-all_below : (n : ℕ) → AllBelow n (nodes_below n)
+pub all_below : (n : ℕ) → AllBelow n (nodes_below n)
 all_below zero = tt
 all_below (suc n) = below_push (nodes_below n) n (all_below n)
 

@@ -12,7 +12,11 @@ use region_map::{Id, NodeId, Region, RegionMap};
 use std::alloc::Global;
 
 /// The contract that the shard of a place, from 0, begins with.
-pub fn first_contract(alloc: Global, place: u64, shard: &ShardConfig) -> Result<Contract, OutOfMemory>
+pub fn first_contract(
+    alloc: Global,
+    place: u64,
+    shard: &ShardConfig,
+) -> Result<Contract, OutOfMemory>
     ensures { IfOk result (λ contract. contract ≡ first_contract place shard.now) }
 {
     Ok(Contract {
