@@ -1,5 +1,7 @@
 //! What holds of every configuration.
-ghost use Rattle.std.specs.Prelude.{◌≡◌, ℕ, List, nat_lt, if◌then◌else◌};
+ghost use Rattle.std.specs.Prelude.{◌≡◌, ℕ, ◌<◌, true, List, length, nat_lt, slice_index_or, if◌then◌else◌};
+ghost use Rattle.region_map.specs.Regions.{in_region};
+ghost use Rattle.contract_types.specs.declared.config.ShardConfig.{ShardConfig};
 ghost use Rattle.contract_types.specs.Configs.{ConfigState, IsConfig, shard_region};
 ghost use Rattle.contract_types.specs.Tilings.{holders};
 
@@ -7,4 +9,12 @@ ghost use Rattle.contract_types.specs.Tilings.{holders};
 pub fn each_pair_has_one_shard()
     ensures { (config : ConfigState) (h : ℕ) (k : List ℕ) → IsConfig config
         → holders shard_region config.shards h k ≡ (if nat_lt h config.hashes then 1 else 0) }
+{}
+
+/// No two shards have a pair in common: shards at two places that both have one are the same.
+pub fn no_two_shards_have_a_pair()
+    ensures { (config : ConfigState) (h : ℕ) (k : List ℕ) (i j : ℕ) (shard : ShardConfig) → IsConfig config
+        → i < length config.shards → j < length config.shards
+        → in_region (slice_index_or config.shards i shard).region h k ≡ true
+        → in_region (slice_index_or config.shards j shard).region h k ≡ true → i ≡ j }
 {}
