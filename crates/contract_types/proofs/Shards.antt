@@ -1,13 +1,15 @@
 -- Each pair of a table lies in one shard.
-use Rattle.std.proofs.Common.{◌≡◌, ℕ, zero, suc, ◌+◌, ◌<◌, ◌≤◌, cond, ◌&&◌, true, false, nat_lt, List, [], ◌∷◌, length, get_or, inl, inr, refl, sym, ap, ◌∙◌, subst, arith}
-use Rattle.std.proofs.lemmas.Bool.{or_parts, cases_lt, lt-ltb, le-ltb, cond_both}
+use Rattle.std.proofs.Common.{◌≡◌, ◌↔◌, Bool, ℕ, zero, suc, ◌+◌, ◌<◌, ◌≤◌, cond, ◌&&◌, true, false, nat_lt, List, [], ◌∷◌, length, get_or, inl, inr, refl, sym, ap, ◌∙◌, subst, arith}
+use Rattle.std.proofs.lemmas.Bool.{or_parts, cases_lt, lt-ltb, le-ltb, cond_both, false≢true}
 use Rattle.region_map.specs.declared.region.Region.{Region}
 use Rattle.region_map.specs.Regions.{in_range, in_region}
 use Rattle.region_map.proofs.Bands.{past_band}
 use Rattle.contract_types.specs.declared.config.ShardConfig.{ShardConfig}
-use Rattle.contract_types.specs.Tilings.{holders}
-use Rattle.contract_types.specs.Configs.{ConfigState, IsConfig, shard_region, is_bad_region, has_bad_region}
+use Rattle.contract_types.specs.Tilings.{holders, allows_at, everywhere}
+use Rattle.contract_types.specs.Configs.{ConfigState, IsConfig, shard_region, is_bad_region, has_bad_region, has_roles, is_config}
+use Rattle.contract_types.specs.declared.tiling.Rule.TheVariants.{Apart, Whole}
 use Rattle.contract_types.proofs.Begins.{good, regions_good}
+use Rattle.contract_types.proofs.Everywhere.{apart_decides, whole_decides}
 
 none_past : (hashes : ℕ) (shards : List ShardConfig) (h : ℕ) (k : List ℕ) → has_bad_region hashes shards ≡ false → hashes ≤ h → holders shard_region shards h k ≡ 0
 none_past hashes [] h k e l = refl
@@ -77,3 +79,31 @@ pub one_shard_place : (c : ConfigState) (h : ℕ) (k : List ℕ) (i j : ℕ) (s 
 one_shard_place c h k i j s ok l m e f =
     one_place shard_region h k c.shards i j s
     (elim (cases_lt 1 (holders shard_region c.shards h k)) [ inl n ↦ absurd (ok.apart (h, k, n)) | inr n ↦ n ]) l m e f
+
+-- ---- the test of all rules
+
+to_config : (c : ConfigState) (roles apart whole : Bool) → roles ≡ has_roles c.nodes c.hashes c.shards
+    → apart ≡ everywhere shard_region shard_region c.shards c.shards (allows_at Apart shard_region shard_region c.shards c.shards)
+    → whole ≡ everywhere shard_region shard_region c.shards c.shards (allows_at (Whole c.hashes) shard_region shard_region c.shards c.shards)
+    → (roles && apart && whole) ≡ true → IsConfig c
+to_config c true true true e f g h = record {
+  roles = sym e;
+  apart = λ o. absurd (false≢true ((apart_decides c.shards c.shards true f).1 o));
+  whole = λ o. absurd (false≢true ((whole_decides c.hashes c.shards c.shards true g).1 o));
+}
+to_config c true true false e f g h = absurd (false≢true h)
+to_config c true false whole e f g h = absurd (false≢true h)
+to_config c false apart whole e f g h = absurd (false≢true h)
+
+from_config : (c : ConfigState) (roles apart whole : Bool) → roles ≡ has_roles c.nodes c.hashes c.shards
+    → apart ≡ everywhere shard_region shard_region c.shards c.shards (allows_at Apart shard_region shard_region c.shards c.shards)
+    → whole ≡ everywhere shard_region shard_region c.shards c.shards (allows_at (Whole c.hashes) shard_region shard_region c.shards c.shards)
+    → IsConfig c → (roles && apart && whole) ≡ true
+from_config c true true true e f g ok = refl
+from_config c true true false e f g ok = absurd (ok.whole ((whole_decides c.hashes c.shards c.shards false g).0 refl))
+from_config c true false whole e f g ok = absurd (ok.apart ((apart_decides c.shards c.shards false f).0 refl))
+from_config c false apart whole e f g ok = e ∙ ok.roles
+
+pub config_decides : (c : ConfigState) → (is_config c ≡ true) ↔ IsConfig c
+unfolding is_config
+config_decides c = (to_config c _ _ _ refl refl refl, from_config c _ _ _ refl refl refl)

@@ -1,8 +1,8 @@
 //! What holds of every configuration.
-ghost use Rattle.std.specs.Prelude.{◌≡◌, ℕ, ◌<◌, true, List, length, nat_lt, slice_index_or, if◌then◌else◌};
+ghost use Rattle.std.specs.Prelude.{◌≡◌, ◌↔◌, ℕ, ◌<◌, true, List, length, nat_lt, slice_index_or, if◌then◌else◌};
 ghost use Rattle.region_map.specs.Regions.{in_region};
 ghost use Rattle.contract_types.specs.declared.config.ShardConfig.{ShardConfig};
-ghost use Rattle.contract_types.specs.Configs.{ConfigState, IsConfig, shard_region};
+ghost use Rattle.contract_types.specs.Configs.{ConfigState, IsConfig, is_config, shard_region};
 ghost use Rattle.contract_types.specs.Tilings.{holders};
 
 /// Each pair of a hash of the table and a byte list lies in exactly one shard, and no other pair lies in any.
@@ -17,4 +17,9 @@ pub fn no_two_shards_have_a_pair()
         → i < length config.shards → j < length config.shards
         → in_region (slice_index_or config.shards i shard).region h k ≡ true
         → in_region (slice_index_or config.shards j shard).region h k ≡ true → i ≡ j }
+{}
+
+/// Whether shards are a configuration can be tested.
+pub fn a_test_finds_configurations()
+    ensures { (config : ConfigState) → (is_config config ≡ true) ↔ IsConfig config }
 {}
