@@ -6,7 +6,8 @@ use Rattle.region_map.specs.declared.region.Region.{Region}
 use Rattle.region_map.specs.Regions.{is_open}
 use Rattle.region_map.specs.Nodes.{has, without, node_id}
 use Rattle.contract_types.specs.declared.config.ShardConfig.{ShardConfig}
-use Rattle.contract_types.specs.Tilings.{holders}
+use Rattle.contract_types.specs.declared.tiling.Rule.TheVariants.{Apart, Whole}
+use Rattle.contract_types.specs.Tilings.{holders, allows_at, everywhere}
 
 -- nodes, hashes and shards of a table
 pub record ConfigState : Type 0 where
@@ -63,3 +64,10 @@ pub record IsConfig (c : ConfigState) : Type 0 where
   pub roles : has_roles c.nodes c.hashes c.shards ≡ true
   pub apart : ¬ Overlaps c.shards
   pub whole : ¬ HasGap c.hashes c.shards
+
+-- a test of the same, at the bounds of the shards alone
+unfoldable pub is_config : ConfigState → Bool
+is_config c =
+    has_roles c.nodes c.hashes c.shards
+    && everywhere shard_region shard_region c.shards c.shards (allows_at Apart shard_region shard_region c.shards c.shards)
+    && everywhere shard_region shard_region c.shards c.shards (allows_at (Whole c.hashes) shard_region shard_region c.shards c.shards)

@@ -87,7 +87,8 @@ impl Model for TableConfig {
 impl TableConfig {
     /// These shards as the configuration of a table with so many nodes and hashes. Each rule is tried on all
     /// shards before the next one: their number, regions, replicas, roles, whether two overlap, and whether
-    /// they leave a gap.
+    /// they leave a gap. It is passed an allocator as all that makes such values is, though the rules want no
+    /// memory.
     pub fn new(
         _alloc: Global,
         nodes: u8,

@@ -18,7 +18,7 @@ pub use contract::{Contract, Holder};
 pub use counts::Counts;
 pub use first::{first_contract, setup_id};
 pub use id_source::IdSource;
-pub use laws::each_pair_has_one_shard;
+pub use laws::{a_test_finds_configurations, each_pair_has_one_shard, no_two_shards_have_a_pair};
 pub use limits::Which;
 pub use placed::Placed;
 pub use region_map::majority;
