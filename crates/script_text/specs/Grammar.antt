@@ -1,7 +1,7 @@
 -- The grammar of a line: the words with their members.
 --
 --     do              required members        optional members
---     setup           nodes                   hash (8)
+--     setup           nodes                   hash (8), shards
 --     put             op, node, key, value
 --     delete, read    op, node, key
 --     cas             op, node, key, expect, value
@@ -12,16 +12,25 @@
 -- No other member may stand. Numbers are whole, without sign and below 2^64. Keys and values are texts and mean their
 -- UTF-8 bytes. In a cas `null` stands for no value: `expect` where the key is to have none, `value` to remove the key. A
 -- member of an object is found in an object alone, so a line that is none has no word.
-use Rattle.std.specs.Prelude.{ℕ, Bool, true, false, ◌&&◌, nat_lt, nat_le, bytes_eq, codes, List, [], ◌∷◌, length, Option, Some, None, is_some, option_map, option_and_then, if◌then◌else◌}
+--
+-- The shards of a setup are a list of objects:
+--
+--                     replicas, primary       voters (the replicas), hash (all), from (""), to (null)
+--
+-- Without `shards` there is one shard of all keys, which every node keeps and votes for, with node 0 as its primary.
+use Rattle.std.specs.Prelude.{ℕ, Bool, true, false, ◌&&◌, nat_lt, nat_le, bytes_eq, codes, List, [], ◌∷◌, length, ◌==◌, Option, Some, None, not, is_some, option_map, option_and_then, if◌then◌else◌}
 use Rattle.std.specs.List.{list_any}
-use Rattle.serde_json.specs.Data.{Data, null, boolean, number, string, array, object, Members, no_members, member}
-use Rattle.serde_json.specs.Find.{get, as_null, as_number, as_u64, as_str}
+use Rattle.serde_json.specs.Data.{Data, null, boolean, number, string, array, object, Members, Items, no_items, item, no_members, member}
+use Rattle.serde_json.specs.Find.{get, at, as_null, as_number, as_u64, as_str, as_array}
 use Rattle.region_map.specs.Keys.{is_key}
-use Rattle.region_map.specs.Nodes.{node_id}
+use Rattle.region_map.specs.Nodes.{node_id, with_member}
 use Rattle.region_map.specs.declared.id.NodeId.{NodeId}
+use Rattle.region_map.specs.declared.region.Region.{Region}
 use Rattle.register_laws.specs.declared.operation.OpId.{OpId}
 use Rattle.register_laws.specs.declared.operation.Op.TheVariants.{Put, Delete, Cas, Read}
-use Rattle.contract_types.specs.Setup.{SetupState, is_setup}
+use Rattle.contract_types.specs.declared.config.ShardConfig.{ShardConfig}
+use Rattle.contract_types.specs.Configs.{ConfigState, is_config}
+use Rattle.contract_types.specs.Setup.{SetupState, is_setup, whole}
 use Rattle.script_text.specs.declared.script.ScriptWord.{ScriptWord}
 use Rattle.script_text.specs.declared.script.ScriptWord.TheVariants.{Request, GiveUp, Deliver, Lose, Flush}
 
@@ -94,13 +103,106 @@ has_only names (string s) = false
 has_only names (array items) = false
 has_only names (object ms) = are_named names ms
 
+-- ---- shards
+
+-- a number that a node of a set may have
+abbrev pub node_of : Data → Option NodeId
+node_of d = do
+  n ← number_of_data d
+  kept_if (nat_lt n 64) (node_id n)
+
+-- a set with all of these nodes
+abbrev pub nodes_with : List ℕ → Items → Option (List ℕ)
+nodes_with set no_items = Some set
+nodes_with set (item d ds) = do
+  node ← node_of d
+  nodes_with (with_member set node.0) ds
+
+-- a list of nodes, as a set
+abbrev pub nodes_of : Data → Option (List ℕ)
+nodes_of d = option_and_then (nodes_with []) (as_array d)
+
+abbrev pub nodes_or : List ℕ → Option Data → Option (List ℕ)
+nodes_or default None = Some default
+nodes_or default (Some d) = nodes_of d
+
+-- a number of hashes, at most all of them
+abbrev pub hash_at : ℕ → ℕ → Data → Option ℕ
+hash_at place hashes pair = do
+  n ← option_and_then number_of_data (at place pair)
+  kept_if (nat_le n hashes) n
+
+-- where the hashes of a shard begin and end
+abbrev pub band_of : ℕ → Data → Option (ℕ × ℕ)
+band_of hashes pair = do
+  from ← hash_at 0 hashes pair
+  to ← hash_at 1 hashes pair
+  kept_if (not (is_some (at 2 pair))) (from, to)
+
+abbrev pub band_or : ℕ → Option Data → Option (ℕ × ℕ)
+band_or hashes None = Some (0, hashes)
+band_or hashes (Some pair) = band_of hashes pair
+
+-- where the keys of a shard begin: "" stands for the least one
+abbrev pub from_of : List ℕ → Option (Option (List ℕ))
+from_of text = if length text == 0 then Some None else kept_if (is_key text) (Some text)
+
+abbrev pub from_or : Option Data → Option (Option (List ℕ))
+from_or None = Some None
+from_or (Some d) = option_and_then from_of (as_str d)
+
+-- where they end: `null` stands for no end
+abbrev pub to_of : Data → Option (Option (List ℕ))
+to_of d = if is_some (as_null d) then Some None else do
+  text ← as_str d
+  kept_if (is_key text) (Some text)
+
+abbrev pub to_or : Option Data → Option (Option (List ℕ))
+to_or None = Some None
+to_or (Some d) = to_of d
+
+abbrev pub region_of : ℕ → Data → Option Region
+region_of hashes shard = do
+  band ← band_or hashes (get (codes "hash") shard)
+  from ← from_or (get (codes "from") shard)
+  to ← to_or (get (codes "to") shard)
+  Some (record { hash_from = band.0; hash_to = band.1; from = from; to = to })
+
+abbrev pub shard_of : ℕ → Data → Option ShardConfig
+shard_of hashes shard = do
+  region ← region_of hashes shard
+  replicas ← option_and_then nodes_of (get (codes "replicas") shard)
+  voters ← nodes_or replicas (get (codes "voters") shard)
+  primary ← option_and_then node_of (get (codes "primary") shard)
+  kept_if (has_only (codes "replicas" ∷ codes "voters" ∷ codes "primary" ∷ codes "hash" ∷ codes "from" ∷ codes "to" ∷ []) shard)
+      (record { region = region; replicas = replicas; voters = voters; primary = primary })
+
+abbrev pub shards_from : ℕ → Items → Option (List ShardConfig)
+shards_from hashes no_items = Some []
+shards_from hashes (item d ds) = do
+  shard ← shard_of hashes d
+  option_map (λ others. shard ∷ others) (shards_from hashes ds)
+
+abbrev pub shards_of : ℕ → Data → Option (List ShardConfig)
+shards_of hashes d = option_and_then (shards_from hashes) (as_array d)
+
+-- shards that break no rule of a configuration
+abbrev pub config_of : ℕ → ℕ → List ShardConfig → Option ConfigState
+config_of nodes hashes shards =
+    kept_if (is_config (record { nodes = nodes; hashes = hashes; shards = shards })) (record { nodes = nodes; hashes = hashes; shards = shards })
+
+abbrev pub setup_with : ℕ → ℕ → Option Data → Option SetupState
+setup_with nodes hashes None = Some (whole nodes hashes)
+setup_with nodes hashes (Some d) = option_and_then (config_of nodes hashes) (shards_of hashes d)
+
 -- ---- words
 
 abbrev pub setup_of : Data → Option SetupState
 setup_of line = do
   nodes ← number_in (codes "nodes") line
   hashes ← number_or 8 (get (codes "hash") line)
-  kept_if (has_only (codes "do" ∷ codes "nodes" ∷ codes "hash" ∷ []) line && is_setup nodes hashes) (record { nodes = nodes; hashes = hashes })
+  if has_only (codes "do" ∷ codes "nodes" ∷ codes "hash" ∷ codes "shards" ∷ []) line && is_setup nodes hashes
+      then setup_with nodes hashes (get (codes "shards") line) else None
 
 abbrev pub put_of : SetupState → Data → Option ScriptWord
 put_of setup line = do

@@ -4,7 +4,7 @@ use Rattle.std.specs.List.{list_all}
 use Rattle.std.specs.Str.{is_utf8}
 use Rattle.serde_json.specs.Data.{Data}
 use Rattle.serde_json.specs.Read.{read}
-use Rattle.contract_types.specs.Setup.{SetupState}
+use Rattle.contract_types.specs.Setup.{SetupState, whole}
 use Rattle.script_text.specs.declared.script.ScriptWord.{ScriptWord}
 use Rattle.script_text.specs.declared.script.ScriptItem.{ScriptItem}
 use Rattle.script_text.specs.Script.{ScriptState, is_again}
@@ -42,9 +42,9 @@ pub record Reading : Type 0 where
   pub setup : SetupState
   pub items : List ScriptItem
 
--- one node and eight hashes, where no line sets the table up
+-- one shard, one node and eight hashes, where no line sets the table up
 abbrev pub at_first : Reading
-at_first = record { begun = false; setup = record { nodes = 1; hashes = 8 }; items = [] }
+at_first = record { begun = false; setup = whole 1 8; items = [] }
 
 -- a setup, which may stand first alone
 abbrev pub take_setup : Reading → Data → Option Reading

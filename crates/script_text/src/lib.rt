@@ -8,18 +8,21 @@
 #![tactic(auto)]
 
 pub use contract_types::{Setup, Which};
+pub use laws::every_setup_without_shards_is_taken;
 pub use memory::OutOfMemory;
 pub use reading::read_script;
 pub use script::{Script, ScriptItem, ScriptWord};
 pub use script_refused::ScriptRefused;
 pub use status::{Reason, Status};
 
+pub mod laws;
 mod line_refused;
 mod lines;
 mod members;
 pub mod reading;
 pub mod script;
 pub mod script_refused;
+mod shards;
 pub mod status;
 #[cfg(test)]
 mod tests;

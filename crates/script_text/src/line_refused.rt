@@ -1,5 +1,6 @@
 //! Why one line was not read.
 use crate::Reason;
+use contract_types::ConfigRefused;
 use memory::OutOfMemory;
 use std::alloc::{AllocError, AllocFailed};
 
@@ -19,6 +20,20 @@ impl From<Reason> for LineRefused {
 
     fn from(reason: Reason) -> LineRefused {
         LineRefused::Reason(reason)
+    }
+}
+
+impl From<ConfigRefused> for LineRefused {
+    ghost use Rattle.std.specs.Prelude.{◌≡◌};
+    ghost use Rattle.script_text.specs.LineReads.{refusal};
+
+    ghost from_gives = { λ c e. e ≡ refusal c };
+
+    fn from(refused: ConfigRefused) -> LineRefused {
+        match refused {
+            ConfigRefused::OutOfMemory => LineRefused::OutOfMemory,
+            _ => LineRefused::Reason(Reason::NotBuilt),
+        }
     }
 }
 

@@ -2,15 +2,19 @@
 ghost use Rattle.std.specs.Prelude.{◌≡◌, List, map, option_map, string_bytes, bytes_eq};
 ghost use Rattle.std.specs.List.{list_all, list_any};
 ghost use Rattle.std.specs.Map.{keys_of};
-ghost use Rattle.script_text.specs.Grammar.{number_in, number_or, text_in, op_in, node_in, has_only};
-ghost use Rattle.script_text.specs.Lines.{line_data};
+ghost use Rattle.script_text.specs.Grammar.{kept_if, number_in, number_or, text_in, op_in, node_in, has_only};
+ghost use Rattle.script_text.specs.LineReads.{IsReadAs};
+ghost use Rattle.region_map.specs.Keys.{is_key};
 ghost use Rattle.serde_json.specs.Find.{get};
 ghost use Rattle.serde_json.specs.View.{view};
 
+use crate::Reason;
+use crate::line_refused::LineRefused;
 use contract_types::Setup;
-use region_map::NodeId;
+use region_map::{Key, NodeId};
 use register_laws::OpId;
 use serde_json::{Map, Value};
+use std::alloc::Global;
 
 /// The number at a name.
 pub(crate) fn number_in(name: &str, line: &Value) -> Option<u64>
@@ -44,14 +48,25 @@ pub(crate) fn op_in(name: &str, line: &Value) -> Option<OpId>
 }
 
 /// The node of a line, if it is one of the table.
-pub(crate) fn node_in(setup: Setup, line: &Value) -> Option<NodeId>
-    ensures { result ≡ node_in setup (view line.now) }
+pub(crate) fn node_in(setup: &Setup, line: &Value) -> Option<NodeId>
+    ensures { result ≡ node_in setup.now (view line.now) }
 {
     let node = number_in("node", line)?;
     if node < setup.nodes() as u64 {
         Some(NodeId(node as u8))
     } else {
         None
+    }
+}
+
+/// A text as a key.
+pub(crate) fn key_of(alloc: Global, text: &str) -> Result<Key, LineRefused>
+    ensures { IsReadAs result (kept_if (is_key text.now) text.now) }
+{
+    let bytes = Vec::from_slice(alloc, text.as_bytes())?;
+    match Key::new(bytes) {
+        Ok(key) => Ok(key),
+        Err(_length) => Err(LineRefused::Reason(Reason::NotBuilt)),
     }
 }
 

@@ -11,6 +11,7 @@ use crate::members::text_in;
 use crate::words::{setup_of, word_named};
 use crate::{Reason, Script, ScriptItem, ScriptRefused, ScriptWord};
 use contract_types::Setup;
+use memory::OutOfMemory;
 use serde_json::Value;
 use std::alloc::Global;
 use std::collections::BTreeSet;
@@ -42,15 +43,16 @@ impl Model for Reader {
 
 impl Reader {
     /// Nothing was said so far.
-    fn new(alloc: Global) -> Reader
-        ensures { result ≡ at_first }
+    fn new(alloc: Global) -> Result<Reader, OutOfMemory>
+        ensures { IfOk result (λ reader. reader ≡ at_first) }
     {
-        Reader {
+        let setup = Setup::whole(alloc, 1, 8)?;
+        Ok(Reader {
             begun: false,
-            setup: Setup::new(1, 8),
+            setup,
             items: Vec::new(alloc),
             known: BTreeSet::new(alloc),
-        }
+        })
     }
 
     /// What was said.
@@ -79,20 +81,20 @@ impl Reader {
     {
         let name = text_in("do", line).ok_or(Reason::NotBuilt)?;
         if name == "setup" {
-            return self.take_setup(line);
+            return self.take_setup(alloc, line);
         }
-        let word = word_named(alloc, self.setup, name, line)?;
+        let word = word_named(alloc, &self.setup, name, line)?;
         self.take_word(number, word)
     }
 
     /// Takes a setup, if the line is the first that is not blank.
-    fn take_setup(&mut self, line: &Value) -> Result<(), LineRefused>
+    fn take_setup(&mut self, alloc: Global, line: &Value) -> Result<(), LineRefused>
         ensures { IsTaken result self.new (take_setup self.old (view line.now)) }
     {
         if self.begun {
             return Err(LineRefused::Reason(Reason::NotBuilt));
         }
-        self.setup = setup_of(line).ok_or(Reason::NotBuilt)?;
+        self.setup = setup_of(alloc, line)?;
         self.begun = true;
         Ok(())
     }
@@ -115,13 +117,16 @@ impl Reader {
 
 /// Reads a script to its end, or to the first line that is refused.
 ///
-/// Its first line may set up the table; without one the table has one node and eight hashes.
+/// Its first line may set up the table; without one the table has one shard, one node and eight hashes.
 pub fn read_script(alloc: Global, text: &[u8]) -> Result<Script, ScriptRefused>
     ensures ok { IfOk result (λ script. read_lines text.now ≡ Accepted script) }
     ensures sound { IfOk result IsSound }
     ensures refused { IfErr result (λ why. IsScriptRefusedAs why (read_lines text.now)) }
 {
-    let mut reader = Reader::new(alloc);
+    let mut reader = match Reader::new(alloc) {
+        Ok(reader) => reader,
+        Err(_no_memory) => return Err(ScriptRefused::OutOfMemory),
+    };
     let mut rest = text;
     let mut number = 0;
     while !rest.is_empty() {

@@ -64,10 +64,10 @@ impl Script {
     }
 
     /// What the table begins with.
-    pub fn setup(&self) -> Setup
-        ensures { result ≡ self.now.setup }
+    pub fn setup(&self) -> &Setup
+        ensures { result.now ≡ self.now.setup }
     {
-        self.setup
+        &self.setup
     }
 
     /// The words in order.

@@ -5,7 +5,8 @@ ghost use Rattle.script_text.specs.LineReads.{IsReadAs};
 ghost use Rattle.serde_json.specs.View.{view};
 
 use crate::line_refused::LineRefused;
-use crate::members::{has_only, node_in, number_in, number_or, op_in, text_in};
+use crate::members::{has_only, key_of, node_in, number_in, number_or, op_in, text_in};
+use crate::shards::setup_with;
 use crate::{Reason, ScriptWord};
 use contract_types::Setup;
 use region_map::Key;
@@ -14,19 +15,19 @@ use serde_json::Value;
 use std::alloc::Global;
 
 /// `setup`: what the table begins with.
-pub(crate) fn setup_of(line: &Value) -> Option<Setup>
-    ensures { result ≡ setup_of (view line.now) }
+pub(crate) fn setup_of(alloc: Global, line: &Value) -> Result<Setup, LineRefused>
+    ensures { IsReadAs result (setup_of (view line.now)) }
 {
-    let nodes = number_in("nodes", line)?;
-    let hashes = number_or(8, "hash", line)?;
-    if has_only(&["do", "nodes", "hash"], line)
+    let nodes = number_in("nodes", line).ok_or(Reason::NotBuilt)?;
+    let hashes = number_or(8, "hash", line).ok_or(Reason::NotBuilt)?;
+    if !(has_only(&["do", "nodes", "hash", "shards"], line)
         && 1 <= nodes
         && nodes <= 7
-        && matches!(hashes, 1 | 2 | 4 | 8)
+        && matches!(hashes, 1 | 2 | 4 | 8))
     {
-        return Some(Setup::new(nodes as u8, hashes as u8));
+        return Err(LineRefused::Reason(Reason::NotBuilt));
     }
-    None
+    setup_with(alloc, nodes as u8, hashes as u8, line.get("shards"))
 }
 
 /// The key of a line.
@@ -34,11 +35,7 @@ fn key_in(alloc: Global, line: &Value) -> Result<Key, LineRefused>
     ensures { IsReadAs result (key_in (view line.now)) }
 {
     let text = text_in("key", line).ok_or(Reason::NotBuilt)?;
-    let bytes = Vec::from_slice(alloc, text.as_bytes())?;
-    match Key::new(bytes) {
-        Ok(key) => Ok(key),
-        Err(_length) => Err(LineRefused::Reason(Reason::NotBuilt)),
-    }
+    key_of(alloc, text)
 }
 
 /// The value of a line.
@@ -81,8 +78,8 @@ fn value_or_null_in(
 }
 
 /// `put`: a request that sets a key.
-fn put_of(alloc: Global, setup: Setup, line: &Value) -> Result<ScriptWord, LineRefused>
-    ensures { IsReadAs result (put_of setup (view line.now)) }
+fn put_of(alloc: Global, setup: &Setup, line: &Value) -> Result<ScriptWord, LineRefused>
+    ensures { IsReadAs result (put_of setup.now (view line.now)) }
 {
     let op = op_in("op", line).ok_or(Reason::NotBuilt)?;
     let node = node_in(setup, line).ok_or(Reason::NotBuilt)?;
@@ -101,8 +98,8 @@ fn put_of(alloc: Global, setup: Setup, line: &Value) -> Result<ScriptWord, LineR
 }
 
 /// `delete`: a request that removes a key.
-fn delete_of(alloc: Global, setup: Setup, line: &Value) -> Result<ScriptWord, LineRefused>
-    ensures { IsReadAs result (delete_of setup (view line.now)) }
+fn delete_of(alloc: Global, setup: &Setup, line: &Value) -> Result<ScriptWord, LineRefused>
+    ensures { IsReadAs result (delete_of setup.now (view line.now)) }
 {
     let op = op_in("op", line).ok_or(Reason::NotBuilt)?;
     let node = node_in(setup, line).ok_or(Reason::NotBuilt)?;
@@ -120,8 +117,8 @@ fn delete_of(alloc: Global, setup: Setup, line: &Value) -> Result<ScriptWord, Li
 }
 
 /// `read`: a request that reads a key.
-fn read_of(alloc: Global, setup: Setup, line: &Value) -> Result<ScriptWord, LineRefused>
-    ensures { IsReadAs result (read_of setup (view line.now)) }
+fn read_of(alloc: Global, setup: &Setup, line: &Value) -> Result<ScriptWord, LineRefused>
+    ensures { IsReadAs result (read_of setup.now (view line.now)) }
 {
     let op = op_in("op", line).ok_or(Reason::NotBuilt)?;
     let node = node_in(setup, line).ok_or(Reason::NotBuilt)?;
@@ -139,8 +136,8 @@ fn read_of(alloc: Global, setup: Setup, line: &Value) -> Result<ScriptWord, Line
 }
 
 /// `cas`: a request that sets or removes a key where it has the value that is expected.
-fn cas_of(alloc: Global, setup: Setup, line: &Value) -> Result<ScriptWord, LineRefused>
-    ensures { IsReadAs result (cas_of setup (view line.now)) }
+fn cas_of(alloc: Global, setup: &Setup, line: &Value) -> Result<ScriptWord, LineRefused>
+    ensures { IsReadAs result (cas_of setup.now (view line.now)) }
 {
     let op = op_in("op", line).ok_or(Reason::NotBuilt)?;
     let node = node_in(setup, line).ok_or(Reason::NotBuilt)?;
@@ -160,8 +157,8 @@ fn cas_of(alloc: Global, setup: Setup, line: &Value) -> Result<ScriptWord, LineR
 }
 
 /// `giveup`: a client no longer waits.
-fn giveup_of(setup: Setup, line: &Value) -> Option<ScriptWord>
-    ensures { result ≡ giveup_of setup (view line.now) }
+fn giveup_of(setup: &Setup, line: &Value) -> Option<ScriptWord>
+    ensures { result ≡ giveup_of setup.now (view line.now) }
 {
     let node = node_in(setup, line)?;
     let op = op_in("for", line)?;
@@ -206,11 +203,11 @@ fn flush_of(line: &Value) -> Option<ScriptWord>
 /// The word of a line whose `do` is this name.
 pub(crate) fn word_named(
     alloc: Global,
-    setup: Setup,
+    setup: &Setup,
     name: &str,
     line: &Value,
 ) -> Result<ScriptWord, LineRefused>
-    ensures { IsReadAs result (word_named setup name.now (view line.now)) }
+    ensures { IsReadAs result (word_named setup.now name.now (view line.now)) }
 {
     if name == "put" {
         return put_of(alloc, setup, line);

@@ -1,0 +1,58 @@
+-- Laws of the shards that a setup asks for.
+use Rattle.std.proofs.Common.{◌≡◌, ℕ, ◌+◌, ◌<◌, Bool, true, false, not, ◌&&◌, List, length, get_or, drop, Some, None, refl, sym, ap, ◌∙◌, subst, drop-cons, add-one}
+use Rattle.std.proofs.lemmas.Bool.{and_parts}
+use Rattle.serde_json.specs.Data.{item}
+use Rattle.serde_json.specs.View.{view, items_view}
+use Rattle.serde_json.specs.declared.value.Value.{Value}
+use Rattle.contract_types.specs.declared.config.ConfigRefused.{ConfigRefused}
+use Rattle.contract_types.specs.declared.config.ConfigRefused.TheVariants.{NoShards, Region, Replicas, Roles, Overlap, Gap, OutOfMemory}
+use Rattle.contract_types.specs.Configs.{ConfigState, IsConfig, is_config, has_no_shards, has_bad_region, has_bad_replicas, has_bad_roles, has_regions, has_replicas, Overlaps, HasGap}
+use Rattle.contract_types.proofs.Shards.{config_decides}
+use Rattle.script_text.specs.Grammar.{kept_if}
+use Rattle.script_text.specs.LineReads.{IsRefusedAs, refusal}
+
+-- the values of a list from a place on
+pub items_view-drop : (xs : List Value) (i : ℕ) (d : Value) → i < length xs → items_view (drop i xs) ≡ item (view (get_or xs i d)) (items_view (drop (i + 1) xs))
+items_view-drop xs i d l = rw (add-one, drop-cons xs i d) refl
+
+pub kept_config : (x c : ConfigState) → c ≡ x → IsConfig c → kept_if (is_config x) x ≡ Some c
+kept_config x c e ok = ap (λ b. kept_if b x) ((config_decides x).1 (subst IsConfig e ok)) ∙ ap Some (sym e)
+
+refused : (x : ConfigState) → (IsConfig x → ⊥) → kept_if (is_config x) x ≡ None
+refused x broken =
+    elim (is_config x) as (λ b. is_config x ≡ b → kept_if b x ≡ None) [
+      | true ↦ λ e. absurd (broken ((config_decides x).0 e))
+      | false ↦ λ e. refl
+    ] refl
+
+opposed : (p q : Bool) → (p && q) ≡ true → (p && not q) ≡ true → ⊥
+opposed true true h g = cc
+opposed true false h g = cc
+opposed false q h g = cc
+
+opposed_not : (p : Bool) → p ≡ true → not p ≡ true → ⊥
+opposed_not true h g = cc
+opposed_not false h g = cc
+
+replicas : (x : ConfigState) → IsConfig x → has_replicas x.nodes x.hashes x.shards ≡ true
+replicas x ok = (and_parts (has_replicas x.nodes x.hashes x.shards) (not (has_bad_roles x.shards)) ok.roles).0
+
+regions : (x : ConfigState) → IsConfig x → has_regions x.hashes x.shards ≡ true
+regions x ok = (and_parts (has_regions x.hashes x.shards) (not (has_bad_replicas x.nodes x.shards)) (replicas x ok)).0
+
+-- shards that are refused break a rule
+pub refused_config : (x : ConfigState) (e : ConfigRefused)
+    → (e ≡ NoShards → has_no_shards x.shards ≡ true)
+    → (e ≡ Region → (not (has_no_shards x.shards) && has_bad_region x.hashes x.shards) ≡ true)
+    → (e ≡ Replicas → (has_regions x.hashes x.shards && has_bad_replicas x.nodes x.shards) ≡ true)
+    → (e ≡ Roles → (has_replicas x.nodes x.hashes x.shards && has_bad_roles x.shards) ≡ true)
+    → (e ≡ Overlap → Overlaps x.shards)
+    → (e ≡ Gap → HasGap x.hashes x.shards)
+    → IsRefusedAs (refusal e) (kept_if (is_config x) x)
+refused_config x NoShards a b c d o g = refused x (λ ok. opposed_not (has_no_shards x.shards) (a refl) (and_parts (not (has_no_shards x.shards)) (not (has_bad_region x.hashes x.shards)) (regions x ok)).0)
+refused_config x Region a b c d o g = refused x (λ ok. opposed (not (has_no_shards x.shards)) (has_bad_region x.hashes x.shards) (b refl) (regions x ok))
+refused_config x Replicas a b c d o g = refused x (λ ok. opposed (has_regions x.hashes x.shards) (has_bad_replicas x.nodes x.shards) (c refl) (replicas x ok))
+refused_config x Roles a b c d o g = refused x (λ ok. opposed (has_replicas x.nodes x.hashes x.shards) (has_bad_roles x.shards) (d refl) ok.roles)
+refused_config x Overlap a b c d o g = refused x (λ ok. ok.apart (o refl))
+refused_config x Gap a b c d o g = refused x (λ ok. ok.whole (g refl))
+refused_config x OutOfMemory a b c d o g = tt

@@ -1,0 +1,5 @@
+use Rattle.std.proofs.Common.{refl}
+use Rattle.script_text.proofs.laws.every_setup_without_shards_is_taken.Goals as goal
+
+pub returns : goal.returns
+returns c line nodes hashes n h s m none = rw (n, h, s, m, none) refl
