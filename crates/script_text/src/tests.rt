@@ -2,6 +2,8 @@
 use crate::lines::read_line;
 use crate::words::word_named;
 use crate::{Reason, ScriptRefused, ScriptWord, Setup, Status, read_script};
+use contract_types::ShardConfig;
+use region_map::Key;
 use register_laws::{Op, Value};
 use std::alloc::Global;
 use std::test::Fail;
@@ -122,6 +124,131 @@ fn refuses_the_first_bad_line(rt: HostRuntime) -> Result<(), Fail> {
     Ok(())
 }
 
+/// The bytes of a bound, or nothing.
+fn bound_text(bound: &Option<Key>) -> &str {
+    match bound {
+        Some(key) => std::str::from_utf8(key.as_bytes()).unwrap_or("?"),
+        None => "",
+    }
+}
+
+/// What is told of the shards of a table of three nodes: their hashes and bounds, how many replicas and voters
+/// they have, and their primaries.
+fn shards_told(alloc: Global, members: &str) -> Result<String, Fail> {
+    let text = format!(in alloc; "{{\"do\":\"setup\",\"nodes\":3{members}}}")?;
+    let mut told = String::new(alloc);
+    let script = match read_script(alloc, text.as_bytes()) {
+        Ok(script) => script,
+        Err(refused) => return Ok(format!(in alloc; "{refused}")?),
+    };
+    for shard in script.setup().config().shards() {
+        let ShardConfig {
+            region,
+            replicas,
+            voters,
+            primary,
+        } = shard;
+        let from = bound_text(&region.from);
+        let to = bound_text(&region.to);
+        told = format!(in alloc;
+            "{told}{}-{} {from}..{to} {}/{} {}; ",
+            region.hash_from,
+            region.hash_to,
+            replicas.len(),
+            voters.len(),
+            primary.0
+        )?;
+    }
+    Ok(told)
+}
+
+#[test]
+fn reads_shards(rt: HostRuntime) -> Result<(), Fail> {
+    let long = "k".repeat(rt.alloc(), 65)?;
+    let too_long = format!(in rt.alloc();
+        ",\"shards\":[{{\"replicas\":[0],\"primary\":0,\"to\":\"{long}\"}}]"
+    )?;
+    let refused = "line 1 is refused";
+    let cases: [(&str, &str); 26] = [
+        ("", "0-8 .. 3/3 0; "),
+        (
+            ",\"shards\":[{\"replicas\":[2,0,1],\"primary\":2,\"to\":\"m\"},{\"replicas\":[2,1,1],\"voters\":[1],\"primary\":1,\"from\":\"m\"}]",
+            "0-8 ..m 3/3 2; 0-8 m.. 2/1 1; ",
+        ),
+        (
+            ",\"hash\":2,\"shards\":[{\"replicas\":[0],\"primary\":0,\"hash\":[1,2]},{\"replicas\":[1],\"primary\":1,\"hash\":[0,1],\"from\":\"\",\"to\":null}]",
+            "1-2 .. 1/1 0; 0-1 .. 1/1 1; ",
+        ),
+        (",\"shards\":[]", refused),
+        (",\"shards\":null", refused),
+        (",\"shards\":[1]", refused),
+        (",\"shards\":[{\"primary\":0}]", refused),
+        (",\"shards\":[{\"replicas\":[0]}]", refused),
+        (",\"shards\":[{\"replicas\":0,\"primary\":0}]", refused),
+        (",\"shards\":[{\"replicas\":[],\"primary\":0}]", refused),
+        (",\"shards\":[{\"replicas\":[0,3],\"primary\":0}]", refused),
+        (",\"shards\":[{\"replicas\":[0,64],\"primary\":0}]", refused),
+        (",\"shards\":[{\"replicas\":[0,1],\"primary\":2}]", refused),
+        (
+            ",\"shards\":[{\"replicas\":[0],\"voters\":[0,1],\"primary\":0}]",
+            refused,
+        ),
+        (
+            ",\"shards\":[{\"replicas\":[0],\"voters\":null,\"primary\":0}]",
+            refused,
+        ),
+        (
+            ",\"shards\":[{\"replicas\":[0],\"primary\":0,\"hash\":[0]}]",
+            refused,
+        ),
+        (
+            ",\"shards\":[{\"replicas\":[0],\"primary\":0,\"hash\":[0,8,8]}]",
+            refused,
+        ),
+        (
+            ",\"shards\":[{\"replicas\":[0],\"primary\":0,\"hash\":[0,9]}]",
+            refused,
+        ),
+        (
+            ",\"shards\":[{\"replicas\":[0],\"primary\":0,\"hash\":[0,4]}]",
+            refused,
+        ),
+        (
+            ",\"shards\":[{\"replicas\":[0],\"primary\":0,\"from\":null}]",
+            refused,
+        ),
+        (
+            ",\"shards\":[{\"replicas\":[0],\"primary\":0,\"from\":\"b\"}]",
+            refused,
+        ),
+        (
+            ",\"shards\":[{\"replicas\":[0],\"primary\":0,\"to\":\"\"}]",
+            refused,
+        ),
+        (too_long.as_str(), refused),
+        (
+            ",\"shards\":[{\"replicas\":[0],\"primary\":0,\"region\":0}]",
+            refused,
+        ),
+        (
+            ",\"shards\":[{\"replicas\":[0],\"primary\":0},{\"replicas\":[0],\"primary\":0,\"from\":\"m\"}]",
+            refused,
+        ),
+        (
+            ",\"shards\":[{\"replicas\":[0],\"primary\":0,\"to\":\"m\"},{\"replicas\":[0],\"primary\":0,\"from\":\"n\"}]",
+            refused,
+        ),
+    ];
+    for (members, expected) in cases {
+        assert_eq!(rt;
+            shards_told(rt.alloc(), members)?.as_str(),
+            expected,
+            "{members}"
+        );
+    }
+    Ok(())
+}
+
 #[test]
 fn keeps_lengths_and_numbers(rt: HostRuntime) -> Result<(), Fail> {
     let cases: [(u64, usize, usize, Option<u64>); 5] = [
@@ -159,7 +286,7 @@ fn cas(alloc: Global, members: &str) -> Result<Option<Op>, Fail> {
     let Some(line) = read_line(alloc, line.as_bytes())? else {
         return Ok(None);
     };
-    match word_named(alloc, Setup::new(2, 8), "cas", &line) {
+    match word_named(alloc, &Setup::whole(alloc, 2, 8)?, "cas", &line) {
         Ok(ScriptWord::Request { what, .. }) => Ok(Some(what)),
         _ => Ok(None),
     }
