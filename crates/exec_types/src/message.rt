@@ -1,10 +1,13 @@
 //! What nodes send one another.
 ghost use Rattle.std.specs.Prelude.{◌≡◌, IfOk};
+ghost use Rattle.exec_types.specs.Parts.{timestamp_of, effect_of};
+ghost use Rattle.exec_types.specs.Sessions.{setup_session_name};
 
+use contract_types::setup_id;
 use memory::OutOfMemory;
-use region_map::{Id, Key};
+use region_map::{Id, Key, NodeId};
 use std::alloc::Global;
-use store_api::Row;
+use store_api::{Item, Row};
 
 /// The name of a session: the id under which the secondary asked for it, and that under which the primary
 /// opened it.
@@ -12,6 +15,18 @@ use store_api::Row;
 pub struct SessionName {
     pub asked: Id,
     pub opened: Id,
+}
+
+impl SessionName {
+    /// The session of a secondary with a primary, in the shard of a place, with which a table begins.
+    pub fn setup(place: u64, primary: NodeId, server: NodeId) -> SessionName
+        ensures { result ≡ setup_session_name place primary server }
+    {
+        SessionName {
+            asked: setup_id(place, server),
+            opened: setup_id(place, primary),
+        }
+    }
 }
 
 /// One part of a session's stream.
@@ -49,6 +64,32 @@ pub enum Message {
 }
 
 impl Part {
+    /// The timestamp that the part brings its region to.
+    pub fn timestamp(&self) -> u64
+        ensures { result ≡ timestamp_of self.now }
+    {
+        match self {
+            Part::Write { at, .. } | Part::Sync { at } => *at,
+        }
+    }
+
+    /// The key that the part gives a row, with the row; none where it leaves every row as it is.
+    pub fn effect(&self, alloc: Global) -> Result<Option<Item>, OutOfMemory>
+        ensures { IfOk result (λ effect. effect ≡ effect_of self.now) }
+    {
+        match self {
+            Part::Write { key, row, .. } => {
+                let key = key.copy(alloc)?;
+                let row = row.copy(alloc)?;
+                Ok(Some(Item {
+                    key,
+                    row: Some(row),
+                }))
+            }
+            Part::Sync { .. } => Ok(None),
+        }
+    }
+
     /// The same part again.
     pub fn copy(&self, alloc: Global) -> Result<Part, OutOfMemory>
         ensures { IfOk result (λ part. part ≡ self.now) }

@@ -3,3 +3,4 @@ pub mod Ordered
 pub mod AtKeys
 pub mod Maps
 pub mod Scans
+pub mod VersionMaps

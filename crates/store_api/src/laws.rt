@@ -8,10 +8,11 @@ ghost use Rattle.region_map.specs.declared.id.Id.{Id};
 ghost use Rattle.region_map.specs.declared.region.Region.{Region};
 ghost use Rattle.region_map.specs.Maps.{Pieced, value_at};
 ghost use Rattle.branch_history.specs.declared.version.Version.{Version};
+ghost use Rattle.branch_history.specs.Paths.{zero};
 ghost use Rattle.store_api.specs.declared.Item.{Item};
 ghost use Rattle.store_api.specs.Rows.{Rows, AreOrdered, row_of, is_same_key, last_row, with_item, with_items, has_key, rows_outside, newer_keys, key_is_newer};
-ghost use Rattle.store_api.specs.Versions.{comes_to, advanced_rows};
-ghost use Rattle.store_api.specs.Calls.{IsAdvanced};
+ghost use Rattle.store_api.specs.Versions.{comes_to, advanced, replaced, advanced_rows, advanced_map, replaced_map, zero_map};
+ghost use Rattle.store_api.specs.Calls.{IsAdvanced, HasValues};
 
 use crate::{Item, Store};
 use region_map::{Id, Key, Region, RegionMap};
@@ -27,6 +28,16 @@ pub fn rows_at_each_key()
         → row_of (with_items rows items) key ≡ last_row items key (row_of rows key) }
     ensures erase_range { (part : Region) (hashes : ℕ) (rows : Rows) (key : List ℕ)
         → row_of (rows_outside part hashes rows) key ≡ (if has_key part hashes key then None else row_of rows key) }
+{}
+
+/// The version of each pair in the maps of the calls that change versions, and in the one that a store begins
+/// with. Pairs whose hash is none of the map's have no version.
+pub fn versions_at_each_pair()
+    ensures advance { (part : Region) (branch : Id) (at : ℕ) (versions : Pieced Version) → 0 < versions.hashes
+        → HasValues versions.hashes (λ h k. advanced part branch at h k (value_at versions.pieces h k)) (advanced_map part branch at versions) }
+    ensures replace { (part : Region) (new : Version) (versions : Pieced Version) → 0 < versions.hashes
+        → HasValues versions.hashes (λ h k. replaced part new h k (value_at versions.pieces h k)) (replaced_map part new versions) }
+    ensures begin { (hashes : ℕ) → 0 < hashes → HasValues hashes (λ h k. Some zero) (zero_map hashes) }
 {}
 
 /// To advance with an effect is to advance without it, and then to give the effect's key its row exactly where

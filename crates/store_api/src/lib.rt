@@ -8,7 +8,7 @@ ghost use Rattle.std.specs.Prelude.{◌≡◌, IfOk};
 
 pub use laws::{
     effects_come_last, rows_at_each_key, scans_are_fronts, scans_find_what_is_newer,
-    stores_are_maps,
+    stores_are_maps, versions_at_each_pair,
 };
 use memory::OutOfMemory;
 use region_map::Key;
