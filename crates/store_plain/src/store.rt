@@ -2,9 +2,10 @@
 ghost use Rattle.std.specs.Prelude.{◌≡◌, ℕ, ◌<◌, List, [], Some, IfOk};
 ghost use Rattle.region_map.specs.Maps.{value_at};
 ghost use Rattle.branch_history.specs.Paths.{zero};
+ghost use Rattle.store_api.specs.Versions.{zero_map};
 
 use crate::PlainRows;
-use crate::versions::{advanced, beginning, comes_to, replaced, version_of};
+use crate::versions::{advanced, beginning, comes_to, replace, version_of};
 use branch_history::Version;
 use memory::OutOfMemory;
 use region_map::{Id, Key, Region, RegionMap};
@@ -36,7 +37,8 @@ impl PlainStore {
         requires { 0 < hashes }
         ensures rows { IfOk result (λ s. s.rows ≡ []) }
         ensures hashes { IfOk result (λ s. s.versions.hashes ≡ hashes) }
-        ensures versions { IfOk result (λ s. (h : ℕ) (k : List ℕ) → h < hashes → value_at s.versions.pieces h k ≡ Some zero) }
+        ensures at { IfOk result (λ s. (h : ℕ) (k : List ℕ) → h < hashes → value_at s.versions.pieces h k ≡ Some zero) }
+        ensures versions { IfOk result (λ s. s.versions ≡ zero_map hashes) }
     {
         let versions = beginning(alloc, hashes)?;
         let rows = PlainRows::new(alloc);
@@ -99,8 +101,7 @@ impl Store for PlainStore {
             branch: Some(branch),
             timestamp: initial,
         };
-        let versions = replaced(alloc, &self.versions, part, first)?;
-        self.versions = versions;
+        replace(alloc, &mut self.versions, part, first)?;
         Ok(())
     }
 
@@ -122,16 +123,14 @@ impl Store for PlainStore {
         items: &[Item],
         version: &Version,
     ) -> Result<(), OutOfMemory> {
-        let versions = replaced(alloc, &self.versions, part, *version)?;
+        replace(alloc, &mut self.versions, part, *version)?;
         self.rows.put_items(alloc, items)?;
-        self.versions = versions;
         Ok(())
     }
 
     fn erase_range(&mut self, alloc: Global, part: &Region) -> Result<(), OutOfMemory> {
-        let versions = replaced(alloc, &self.versions, part, Version::zero())?;
-        self.rows.erase(part, versions.hashes());
-        self.versions = versions;
+        replace(alloc, &mut self.versions, part, Version::zero())?;
+        self.rows.erase(part, self.versions.hashes());
         Ok(())
     }
 }

@@ -1,8 +1,8 @@
 //! The versions of a plain store.
-ghost use Rattle.std.specs.Prelude.{◌≡◌, ℕ, ◌<◌, List, Some, IfOk};
+ghost use Rattle.std.specs.Prelude.{◌≡◌, ℕ, ◌<◌, List, Some, IfOk, OnOk};
 ghost use Rattle.region_map.specs.Maps.{value_at};
 ghost use Rattle.branch_history.specs.Paths.{zero};
-ghost use Rattle.store_api.specs.Versions.{IsWhole, is_behind, advanced, replaced, comes_to, version_of};
+ghost use Rattle.store_api.specs.Versions.{IsWhole, is_behind, advanced, replaced, comes_to, version_of, advanced_map, replaced_map, zero_map};
 
 use branch_history::Version;
 use memory::OutOfMemory;
@@ -14,6 +14,7 @@ pub fn beginning(alloc: Global, hashes: u8) -> Result<RegionMap<Version>, OutOfM
     requires { 0 < hashes }
     ensures hashes { IfOk result (λ m. m.hashes ≡ hashes) }
     ensures at { IfOk result (λ m. (h : ℕ) (k : List ℕ) → h < hashes → value_at m.pieces h k ≡ Some zero) }
+    ensures made { IfOk result (λ m. m ≡ zero_map hashes) }
     ensures whole { IfOk result IsWhole }
 {
     let part = Region {
@@ -84,6 +85,7 @@ pub fn advanced(
     ensures hashes { IfOk result (λ m. m.hashes ≡ versions.now.hashes) }
     ensures at { IfOk result (λ m. (h : ℕ) (k : List ℕ) → value_at m.pieces h k
         ≡ advanced part.now branch at h k (value_at versions.now.pieces h k)) }
+    ensures made { IfOk result (λ m. m ≡ advanced_map part.now branch at versions.now) }
     ensures whole { IfOk result IsWhole }
 {
     let inside = RegionMap::constant(alloc, part.copy(alloc)?, versions.hashes(), true)?;
@@ -91,22 +93,22 @@ pub fn advanced(
     Ok(new)
 }
 
-/// The versions, after the pairs of a part got this one.
-pub fn replaced(
+/// Gives the pairs of a part this version.
+pub fn replace(
     alloc: Global,
-    versions: &RegionMap<Version>,
+    versions: &mut RegionMap<Version>,
     part: &Region,
     version: Version,
-) -> Result<RegionMap<Version>, OutOfMemory>
-    requires { IsWhole versions.now }
-    ensures hashes { IfOk result (λ m. m.hashes ≡ versions.now.hashes) }
-    ensures at { IfOk result (λ m. (h : ℕ) (k : List ℕ) → value_at m.pieces h k
-        ≡ replaced part.now version h k (value_at versions.now.pieces h k)) }
-    ensures whole { IfOk result IsWhole }
+) -> Result<(), OutOfMemory>
+    requires { IsWhole versions.old }
+    ensures hashes { versions.new.hashes ≡ versions.old.hashes }
+    ensures at { OnOk result ((h : ℕ) (k : List ℕ) → value_at versions.new.pieces h k
+        ≡ replaced part.now version h k (value_at versions.old.pieces h k)) }
+    ensures made { OnOk result (versions.new ≡ replaced_map part.now version versions.old) }
+    ensures whole { IsWhole versions.new }
 {
-    let mut new = versions.copy(alloc)?;
-    new.set(alloc, part, version)?;
-    Ok(new)
+    versions.set(alloc, part, version)?;
+    Ok(())
 }
 
 /// Whether the version of a key comes to a point of the branch, as those of a part do.
