@@ -1,16 +1,15 @@
-//! What an operation does to the primary's own rows.
-ghost use Rattle.std.specs.Prelude.{◌≡◌, IfOk, OnOk};
+//! What an operation replies, and what it tells the secondaries.
+ghost use Rattle.std.specs.Prelude.{◌≡◌, IfOk};
 ghost use Rattle.register_laws.specs.Register.{writes, reply_of};
-ghost use Rattle.store_plain.specs.Rows.{value_of};
-ghost use Rattle.primary_exec.specs.Execution.{part_of, with_written};
+ghost use Rattle.store_api.specs.Rows.{value_of};
+ghost use Rattle.primary_exec.specs.Execution.{part_of};
 
 use exec_types::Part;
 use memory::OutOfMemory;
 use region_map::Key;
 use register_laws::{Op, Reply, Value, step};
 use std::alloc::Global;
-use store_api::Row;
-use store_plain::PlainRows;
+use store_api::{Row, Store};
 
 /// Whether the operation writes at a register with this value.
 fn is_writing(state: &Option<Value>, what: &Op) -> bool
@@ -45,33 +44,20 @@ fn effect_on(
     }
 }
 
-/// The reply to an operation at a timestamp on the rows, and the part that tells the secondaries of it.
-pub fn effect(
+/// The reply to an operation at a timestamp on a store, and the part that tells the secondaries of it.
+pub fn effect<T: Store>(
     alloc: Global,
-    store: &PlainRows,
+    store: &T,
     at: u64,
     key: &Key,
     what: &Op,
 ) -> Result<(Reply, Part), OutOfMemory>
-    ensures reply { IfOk result (λ effect. effect.0 ≡ reply_of (value_of store.now key.now) what.now) }
+    ensures reply { IfOk result (λ effect. effect.0 ≡ reply_of (value_of (T.rows store.now) key.now) what.now) }
     ensures part { IfOk result
-        (λ effect. effect.1 ≡ part_of (value_of store.now key.now) at key.now what.now) }
+        (λ effect. effect.1 ≡ part_of (value_of (T.rows store.now) key.now) at key.now what.now) }
 {
     match store.get(key) {
         Some(row) => effect_on(alloc, &row.value, at, key, what),
         None => effect_on(alloc, &None, at, key, what),
-    }
-}
-
-/// Gives the primary's own rows what a part writes.
-pub fn apply(part: Part, store: &mut PlainRows) -> Result<(), OutOfMemory>
-    ensures { OnOk result (store.new ≡ with_written store.old part) }
-{
-    match part {
-        Part::Write { key, row, .. } => {
-            store.put(key, row)?;
-            Ok(())
-        }
-        Part::Sync { .. } => Ok(()),
     }
 }

@@ -1,19 +1,19 @@
 //! A primary's execution of its contract.
-ghost use Rattle.std.specs.Prelude.{◌≡◌, ◌+◌, ◌^◌, ◌<◌, ◌++◌, ◌∷◌, [], ◌↔◌, OnOk, IsErrOf, IsTrue};
-ghost use Rattle.write_dispatch.specs.Dispatch.{no_acks, with_ack};
-ghost use Rattle.primary_exec.specs.Execution.{Execution, dispatch_row, dispatch_ends_numbers, got_row, decided, decide_outs, give_up_row, give_up_outs, joined};
+ghost use Rattle.std.specs.Prelude.{◌≡◌, ◌<◌, ◌++◌, ◌↔◌, IfOk, OnOk, IsErrOf, IsTrue};
+ghost use Rattle.store_api.specs.Rows.{has_key};
+ghost use Rattle.primary_exec.specs.Execution.{begun, joined, setup_execution, dispatch_row, dispatch_ends_numbers, got_row, decided, decide_outs, give_up_row, give_up_outs};
 
 use crate::answers::{answer_decided, answer_given_up};
-use crate::effect::{apply, effect};
+use crate::effect::effect;
 use crate::session::{Session, acknowledge, ends_numbers, is_live, send};
-use contract_types::Contract;
+use contract_types::{Contract, setup_id};
 use exec_types::{Got, Output, Outputs, SessionName};
 use memory::OutOfMemory;
 use region_map::{Id, Key, NUMBERS_END, NodeId, StepRefused};
 use register_laws::{Op, OpId};
 use std::alloc::Global;
 use std::marker::Model;
-use store_plain::PlainRows;
+use store_api::Store;
 use write_dispatch::Pending;
 
 /// A started execution of a contract by its primary.
@@ -40,9 +40,8 @@ impl Model for Primary {
 
 impl Primary {
     /// An execution that has taken no timestamp and has no sessions.
-    pub fn begin(alloc: Global, contract: Contract, me: NodeId, branch: Id) -> Primary
-        ensures { result
-            ≡ record { contract = contract; me = me; branch = branch; last = 0; dispatch = record { waiting = []; acks = no_acks }; sessions = [] } }
+    fn begin(alloc: Global, contract: Contract, me: NodeId, branch: Id) -> Primary
+        ensures { result ≡ begun contract me branch }
     {
         Primary {
             contract,
@@ -55,8 +54,7 @@ impl Primary {
     }
 
     /// A secondary that has the start of this session, and stands at timestamp 0.
-    pub fn join(&mut self, server: NodeId, name: SessionName) -> Result<(), OutOfMemory>
-        requires { server.0 < 64 }
+    fn join(&mut self, server: NodeId, name: SessionName) -> Result<(), OutOfMemory>
         ensures { OnOk result (self.new ≡ joined self.old server name) }
     {
         self.sessions.push(Session {
@@ -69,20 +67,51 @@ impl Primary {
         Ok(())
     }
 
+    /// What a primary begins with in the shard of a place: the other replicas are joined.
+    pub fn setup(
+        alloc: Global,
+        contract: Contract,
+        me: NodeId,
+        place: u64,
+    ) -> Result<Primary, OutOfMemory>
+        ensures { IfOk result (λ primary. primary ≡ setup_execution contract me place) }
+    {
+        let replicas = contract.replicas;
+        let mut primary = Primary::begin(alloc, contract, me, setup_id(place, me));
+        for server in replicas.iter() {
+            if server != me {
+                primary.join(server, SessionName::setup(place, me, server))?;
+            }
+        }
+        Ok(primary)
+    }
+
+    /// Whether the region of its contract has the key, where there are so many hashes.
+    pub fn is_for(&self, key: &Key, hashes: u8) -> bool
+        requires { 0 < hashes }
+        ensures { result ≡ has_key self.now.contract.region hashes key.now }
+    {
+        self.contract.region.contains(key, hashes)
+    }
+
     /// Gives the operation the next timestamp.
-    pub fn request(
+    pub fn request<T: Store>(
         &mut self,
         alloc: Global,
         op: OpId,
         key: &Key,
         what: &Op,
-        store: &mut PlainRows,
+        store: &mut T,
         out: &mut Outputs,
     ) -> Result<(), StepRefused>
-        ensures execution { OnOk result
-            (self.new ≡ (dispatch_row self.old store.old op key.now what.now).execution) }
-        ensures store { OnOk result (store.new ≡ (dispatch_row self.old store.old op key.now what.now).rows) }
-        ensures out { OnOk result (out.new ≡ out.old ++ (dispatch_row self.old store.old op key.now what.now).outs) }
+        ensures execution { OnOk result (self.new
+            ≡ (dispatch_row self.old (T.rows store.old) (T.versions store.old) op key.now what.now).execution) }
+        ensures rows { OnOk result (T.rows store.new
+            ≡ (dispatch_row self.old (T.rows store.old) (T.versions store.old) op key.now what.now).rows) }
+        ensures versions { OnOk result (T.versions store.new
+            ≡ (dispatch_row self.old (T.rows store.old) (T.versions store.old) op key.now what.now).versions) }
+        ensures out { OnOk result (out.new
+            ≡ out.old ++ (dispatch_row self.old (T.rows store.old) (T.versions store.old) op key.now what.now).outs) }
         ensures numbers { IsErrOf result StepRefused.NumbersEnd ↔ IsTrue (dispatch_ends_numbers self.old) }
     {
         if self.last >= NUMBERS_END - 1 || ends_numbers(&self.sessions) {
@@ -98,7 +127,8 @@ impl Primary {
             branch: self.branch,
             timestamp: at,
         })?;
-        apply(part, store)?;
+        let written = part.effect(alloc)?;
+        store.advance(alloc, &self.contract.region, self.branch, at, written)?;
         self.pending.dispatch(Some(op), at, reply)?;
         self.sessions = sessions;
         self.last = at;
@@ -107,7 +137,6 @@ impl Primary {
 
     /// Takes a secondary's word of how far it came.
     pub fn got(&mut self, from: NodeId, got: &Got)
-        requires { from.0 < 64 }
         ensures { self.new ≡ got_row self.old from got.now }
     {
         if !is_live(&self.sessions, from, &got.session) {

@@ -1,48 +1,83 @@
 //! What a secondary keeps of the primary that it follows.
-ghost use Rattle.std.specs.Prelude.{◌≡◌, ◌++◌, ◌∷◌, [], ◌↔◌, nat_lt, OnOk, IsErrOf, IsTrue};
-ghost use Rattle.secondary_exec.specs.Stream.{timestamp_of, with_part, acknowledgement, stream_row, stream_ends_numbers};
+ghost use Rattle.std.specs.Prelude.{◌≡◌, ◌++◌, ◌∷◌, [], ◌↔◌, IfOk, OnOk, IsErrOf, IsTrue};
+ghost use Rattle.exec_types.specs.Parts.{timestamp_of, effect_of};
+ghost use Rattle.store_api.specs.Versions.{advanced_rows, advanced_map};
+ghost use Rattle.secondary_exec.specs.Stream.{setup_following, is_ours, acknowledgement, stream_row, stream_ends_numbers};
 
+use contract_types::{Contract, setup_id};
 use exec_types::{Got, Message, Output, Outputs, Part, SessionName, Stream};
-use region_map::{NUMBERS_END, NodeId, StepRefused};
+use memory::OutOfMemory;
+use region_map::{Id, NUMBERS_END, NodeId, Region, StepRefused};
 use std::alloc::Global;
-use store_plain::PlainRows;
+use store_api::Store;
 
-/// A secondary that joined its primary's session.
-#[derive(Clone, Copy, Debug)]
+/// A secondary that joined its primary's session, which is for a region and a branch.
+#[derive(Debug, Drop)]
 pub struct Following {
     pub primary: NodeId,
+    pub region: Region,
+    pub branch: Id,
     pub session: SessionName,
     /// The number of the last part that it applied.
     pub got: u64,
-    /// The timestamp of the last part that it applied: all of its rows stand there.
+    /// The timestamp of the last part that it applied: all of the region stands there.
     pub position: u64,
 }
 
 impl Following {
+    /// What a secondary begins with under a contract, in the shard of a place: it is joined, and has the first
+    /// part of its session.
+    pub fn setup(
+        alloc: Global,
+        contract: &Contract,
+        primary: NodeId,
+        me: NodeId,
+        place: u64,
+    ) -> Result<Following, OutOfMemory>
+        ensures { IfOk result (λ following. following ≡ setup_following contract.now primary me place) }
+    {
+        Ok(Following {
+            primary,
+            region: contract.region.copy(alloc)?,
+            branch: setup_id(place, primary),
+            session: SessionName::setup(place, primary, me),
+            got: 1,
+            position: 0,
+        })
+    }
+
+    /// Whether a part of a stream comes from the primary in the session.
+    pub fn is_ours(&self, from: NodeId, stream: &Stream) -> bool
+        ensures { result ≡ is_ours self.now from stream.now }
+    {
+        from.0 == self.primary.0 && stream.session == self.session
+    }
+
     /// Takes a part of the stream of a node. The next part of its session is applied and acknowledged, an earlier
     /// one acknowledged again, and any other does nothing.
-    pub fn stream(
+    pub fn stream<T: Store>(
         &mut self,
         alloc: Global,
         from: NodeId,
         stream: &Stream,
         view: u64,
-        store: &mut PlainRows,
+        store: &mut T,
         out: &mut Outputs,
     ) -> Result<(), StepRefused>
-        ensures following { OnOk result (self.new ≡ (stream_row self.old store.old from stream.now view).following) }
-        ensures store { OnOk result (store.new ≡ (stream_row self.old store.old from stream.now view).rows) }
-        ensures out { OnOk result (out.new ≡ out.old ++ (stream_row self.old store.old from stream.now view).outs) }
+        ensures following { OnOk result (self.new ≡ (stream_row self.old (T.rows store.old) (T.versions store.old) from stream.now view).following) }
+        ensures rows { OnOk result (T.rows store.new ≡ (stream_row self.old (T.rows store.old) (T.versions store.old) from stream.now view).rows) }
+        ensures versions { OnOk result (T.versions store.new ≡ (stream_row self.old (T.rows store.old) (T.versions store.old) from stream.now view).versions) }
+        ensures out { OnOk result (out.new ≡ out.old ++ (stream_row self.old (T.rows store.old) (T.versions store.old) from stream.now view).outs) }
         ensures numbers { IsErrOf result StepRefused.NumbersEnd ↔ IsTrue (stream_ends_numbers self.old from stream.now) }
     {
-        if from.0 != self.primary.0 || stream.session != self.session {
+        if !self.is_ours(from, stream) {
             return Ok(());
         }
         if stream.number <= self.got {
             self.acknowledge(view, out)?;
             return Ok(());
         }
-        if stream.number - self.got != 1 || !self.is_next(&stream.part) {
+        if stream.number - self.got != 1 || stream.part.timestamp() <= self.position {
             return Ok(());
         }
         if stream.number >= NUMBERS_END {
@@ -54,40 +89,24 @@ impl Following {
         Ok(())
     }
 
-    /// Whether the part lies above the position, as each next part of a session does.
-    fn is_next(&self, part: &Part) -> bool
-        ensures { result ≡ nat_lt self.now.position (timestamp_of part.now) }
-    {
-        match part {
-            Part::Write { at, .. } => self.position < *at,
-            Part::Sync { at } => self.position < *at,
-        }
-    }
-
-    /// Moves to the part's timestamp, with its row.
-    fn apply(
+    /// Brings the region to the part's timestamp, with its row.
+    fn apply<T: Store>(
         &mut self,
         alloc: Global,
         part: &Part,
-        store: &mut PlainRows,
+        store: &mut T,
     ) -> Result<(), StepRefused>
         ensures following { OnOk result (self.new ≡ record self.old { position = timestamp_of part.now }) }
-        ensures store { OnOk result (store.new ≡ with_part store.old part.now) }
+        ensures rows { OnOk result (T.rows store.new
+            ≡ advanced_rows (effect_of part.now) self.old.region self.old.branch (timestamp_of part.now) (T.versions store.old) (T.rows store.old)) }
+        ensures versions { OnOk result (T.versions store.new ≡ advanced_map self.old.region self.old.branch (timestamp_of part.now) (T.versions store.old)) }
         ensures memory { IsErrOf result StepRefused.NumbersEnd → ⊥ }
     {
-        match part {
-            Part::Write { at, key, row } => {
-                let key = key.copy(alloc)?;
-                let row = row.copy(alloc)?;
-                store.put(key, row)?;
-                self.position = *at;
-                Ok(())
-            }
-            Part::Sync { at } => {
-                self.position = *at;
-                Ok(())
-            }
-        }
+        let at = part.timestamp();
+        let effect = part.effect(alloc)?;
+        store.advance(alloc, &self.region, self.branch, at, effect)?;
+        self.position = at;
+        Ok(())
     }
 
     /// Tells the primary how far this secondary came.

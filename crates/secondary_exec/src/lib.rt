@@ -1,6 +1,6 @@
 //! A secondary: it follows a primary's stream of writes.
 //!
-//! Above: `node_core`. Below: `exec_types`, `store_plain`.
+//! Above: `node_core`. Below: `exec_types`, `store_api`.
 //! Promise: each row of the secondary is its definition, `stream_row`.
 #![tactic(auto)]
 

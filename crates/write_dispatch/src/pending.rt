@@ -59,13 +59,13 @@ impl Pending {
         Ok(())
     }
 
-    /// Keeps the pair that a server gave, where it is above the kept one: by view first, then by timestamp.
+    /// Keeps the pair that a server gave, where it is above the kept one: by view first, then by timestamp. Of a
+    /// server whose number is 64 or more it keeps none.
     pub fn count_ack(&mut self, server: NodeId, view: u64, at: u64)
-        requires { server.0 < 64 }
         ensures { self.new ≡ record self.old { acks = with_ack self.old.acks server.0 view at } }
     {
         let place = server.0 as usize;
-        if exceeds(view, at, self.acks[place]) {
+        if place < self.acks.len() && exceeds(view, at, self.acks[place]) {
             self.acks[place] = Some(KeptAck { view, at });
         }
     }

@@ -7,7 +7,7 @@ use Rattle.primary_exec.proofs.Sound.{IsSound-sent}
 use Rattle.primary_exec.proofs.primary.Primary.request.Goals as goal
 
 pub invariant_of-self-2 : goal.invariant_of-self-2
-invariant_of-self-2 c =
+invariant_of-self-2 g c =
     let last = c.self.inside.last in
     let d : Decided = record { op = Some c.args.op; at = last + 1; reply = c.in_ok-reply.reply } in
     let waiting : c.dispatch.new.self.waiting ≡ c.self.inside.pending.waiting ++ d ∷ [] = ap (λ (p : DispatchState). p.waiting) c.in_ok-dispatch.ensures.ok in
