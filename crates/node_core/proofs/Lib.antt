@@ -1,1 +1,3 @@
-pub mod Below
+pub mod Outs
+pub mod Requests
+pub mod Streams

@@ -1,5 +1,5 @@
 //! The journal: what every node was given and gave, in one order.
-ghost use Rattle.std.specs.Prelude.{◌≡◌, [], ◌∷◌, None, Some, reverse, OnOk, OnErr};
+ghost use Rattle.std.specs.Prelude.{◌≡◌, [], ◌∷◌, None, Some, reverse, OnOk, OnErr, option_copied};
 ghost use Rattle.node_core.specs.Journal.{JournalState, empty_journal};
 
 use contract_types::Setup;
@@ -45,10 +45,10 @@ impl Journal {
     }
 
     /// What the table began with, where it began.
-    pub fn setup(&self) -> Option<Setup>
-        ensures { result ≡ self.now.setup }
+    pub fn setup(&self) -> Option<&Setup>
+        ensures { option_copied result ≡ self.now.setup }
     {
-        self.setup
+        self.setup.as_ref()
     }
 
     /// The entries, the oldest first.

@@ -7,7 +7,7 @@
 pub use journal::{Entry, Journal};
 pub use node::{Brought, Node};
 
+pub mod beginning;
 pub mod journal;
 pub mod node;
 pub mod rows;
-pub mod setup_state;

@@ -2,8 +2,8 @@
 ghost use Rattle.std.specs.Prelude.{◌≡◌, ◌<◌, ◌++◌, ◌↔◌, Some, IfOk, OnOk, IsErrOf, IsTrue};
 ghost use Rattle.node_core.specs.Step.{begin_node, serves, input_row, brought_row, brought_ends_numbers, end_step, node_step, ends_numbers};
 
+use crate::beginning::{begin_branches, begin_executions, begin_followings};
 use crate::rows::{decide, give_up, request, take_got, take_stream};
-use crate::setup_state::{setup_following, setup_primary};
 use contract_types::Setup;
 use exec_types::{Input, Message, Outputs};
 use memory::OutOfMemory;
@@ -12,7 +12,7 @@ use region_map::{Key, NodeId, StepRefused};
 use secondary_exec::Following;
 use std::alloc::Global;
 use std::marker::Model;
-use store_plain::PlainRows;
+use store_plain::PlainStore;
 
 /// A message that the network brings, with its sender.
 #[derive(Debug, Drop)]
@@ -21,14 +21,14 @@ pub struct Brought {
     pub message: Message,
 }
 
-/// One node: its rows, and the execution or the following that its contract gives it.
+/// One node: its store, and the executions and followings that its contracts give it, in table order.
 #[derive(Drop)]
 pub struct Node {
     me: NodeId,
     setup: Setup,
-    store: PlainRows,
-    primary: Option<Primary>,
-    following: Option<Following>,
+    store: PlainStore,
+    executions: Vec<Primary>,
+    followings: Vec<Following>,
 }
 
 impl Model for Node {
@@ -36,32 +36,26 @@ impl Model for Node {
 
     ghost Value = { NodeState };
 
-    ghost view = { λ a. record { me = a.me; setup = a.setup; rows = a.store; primary = a.primary; following = a.following } };
+    ghost view = { λ a. record { me = a.me; setup = a.setup; rows = a.store.rows; versions = a.store.versions; executions = a.executions.items; followings = a.followings.items } };
 }
 
 impl Node {
     /// A node of a table as it begins.
     pub fn begin(alloc: Global, setup: &Setup, me: NodeId) -> Result<Node, OutOfMemory>
-        requires { me.0 < setup.now.nodes }
         ensures { IfOk result (λ node. node ≡ begin_node setup.now me.0) }
     {
-        let store = PlainRows::new(alloc);
-        if me.0 == 0 {
-            let primary = setup_primary(alloc, setup)?;
-            return Ok(Node {
-                me,
-                setup: *setup,
-                store,
-                primary: Some(primary),
-                following: None,
-            });
-        }
+        let shards = setup.config().shards();
+        let mut store = PlainStore::new(alloc, setup.hashes())?;
+        begin_branches(alloc, shards, me, &mut store)?;
+        let executions = begin_executions(alloc, shards, me)?;
+        let followings = begin_followings(alloc, shards, me)?;
+        let setup = setup.copy(alloc)?;
         Ok(Node {
             me,
-            setup: *setup,
+            setup,
             store,
-            primary: None,
-            following: Some(setup_following(me.0)),
+            executions,
+            followings,
         })
     }
 
@@ -83,8 +77,10 @@ impl Node {
     pub fn serving(&self, key: &Key) -> bool
         ensures { result ≡ serves self.now key.now }
     {
-        let _key = key;
-        self.primary.is_some()
+        let hashes = self.setup.hashes();
+        self.executions
+            .iter()
+            .any(|execution| execution.is_for(key, hashes))
     }
 
     /// One step. `brought` is the message that a `Deliver` names, with its sender. At a refusal the node is gone.
@@ -120,7 +116,8 @@ impl Node {
         match input {
             Input::Request { op, key, what } => {
                 request(
-                    &mut self.primary,
+                    &mut self.executions,
+                    self.setup.hashes(),
                     &mut self.store,
                     alloc,
                     *op,
@@ -131,7 +128,7 @@ impl Node {
                 Ok(())
             }
             Input::GiveUp { op } => {
-                give_up(&mut self.primary, *op, out)?;
+                give_up(&mut self.executions, *op, out)?;
                 Ok(())
             }
             Input::Deliver { .. } => match brought {
@@ -160,7 +157,7 @@ impl Node {
         match &brought.message {
             Message::Stream(stream) => {
                 take_stream(
-                    &mut self.following,
+                    &mut self.followings,
                     &mut self.store,
                     alloc,
                     from,
@@ -170,20 +167,20 @@ impl Node {
                 Ok(())
             }
             Message::Got(got) => {
-                take_got(&mut self.primary, from, got);
+                take_got(&mut self.executions, from, got);
                 Ok(())
             }
         }
     }
 
-    /// What ends each step: a primary answers the operations that are decided.
+    /// What ends each step: each execution answers the operations that are decided.
     fn end(&mut self, out: &mut Outputs) -> Result<(), OutOfMemory>
         ensures node { OnOk result
-            (self.new ≡ (end_step (record { node = self.old; outs = out.old }) self.old.primary).node) }
+            (self.new ≡ (end_step (record { node = self.old; outs = out.old })).node) }
         ensures out { OnOk result
-            (out.new ≡ (end_step (record { node = self.old; outs = out.old }) self.old.primary).outs) }
+            (out.new ≡ (end_step (record { node = self.old; outs = out.old })).outs) }
     {
-        decide(&mut self.primary, out)?;
+        decide(&mut self.executions, out)?;
         Ok(())
     }
 }

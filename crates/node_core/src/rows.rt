@@ -1,7 +1,7 @@
 //! The rows of the node's step, over its parts.
-ghost use Rattle.std.specs.Prelude.{◌≡◌, ◌<◌, ◌++◌, ◌↔◌, OnOk, IsErrOf, IsTrue};
-ghost use Rattle.node_core.specs.Parts.{request_primary, request_rows, request_outs, give_up_primary, give_up_parts, stream_following, stream_rows, stream_outs, got_primary, decided_primary, decided_parts};
-ghost use Rattle.node_core.specs.Step.{request_ends_numbers, take_stream_ends_numbers};
+ghost use Rattle.std.specs.Prelude.{◌≡◌, ◌<◌, ◌++◌, ◌↔◌, position, IfSome, OnOk, IsErrOf, IsTrue};
+ghost use Rattle.secondary_exec.specs.Stream.{is_ours};
+ghost use Rattle.node_core.specs.Parts.{is_for, request_all, requests_end_numbers, stream_all, streams_end_numbers, got_all, give_up_all, give_up_all_outs, decide_all, decide_all_outs};
 
 use exec_types::{Got, Outcome, Output, Outputs, Stream};
 use memory::OutOfMemory;
@@ -10,89 +10,114 @@ use region_map::{Key, NodeId, StepRefused};
 use register_laws::{Op, OpId};
 use secondary_exec::Following;
 use std::alloc::Global;
-use store_plain::PlainRows;
+use store_plain::PlainStore;
 
-/// A client asks for an operation: a primary dispatches it, any other node does not serve the key.
+/// The place of the execution whose region has a key, where there are so many hashes.
+fn place_for(executions: &[Primary], key: &Key, hashes: u8) -> Option<usize>
+    requires { 0 < hashes }
+    ensures { result ≡ position (is_for hashes key.now) executions.now }
+{
+    executions
+        .iter()
+        .position(|execution| execution.is_for(key, hashes))
+}
+
+/// A client asks for an operation: the execution of the key's region dispatches it; where there is none, the node
+/// does not serve the key.
 pub fn request(
-    primary: &mut Option<Primary>,
-    store: &mut PlainRows,
+    executions: &mut [Primary],
+    hashes: u8,
+    store: &mut PlainStore,
     alloc: Global,
     op: OpId,
     key: &Key,
     what: &Op,
     out: &mut Outputs,
 ) -> Result<(), StepRefused>
-    ensures primary { OnOk result (primary.new ≡ request_primary primary.old store.old op key.now what.now) }
-    ensures store { OnOk result (store.new ≡ request_rows primary.old store.old op key.now what.now) }
-    ensures out { OnOk result (out.new ≡ out.old ++ request_outs primary.old store.old op key.now what.now) }
-    ensures numbers { IsErrOf result StepRefused.NumbersEnd ↔ IsTrue (request_ends_numbers primary.old) }
+    requires { 0 < hashes }
+    ensures executions { OnOk result (executions.new
+        ≡ (request_all hashes executions.old store.old.rows store.old.versions op key.now what.now).executions) }
+    ensures rows { OnOk result (store.new.rows
+        ≡ (request_all hashes executions.old store.old.rows store.old.versions op key.now what.now).rows) }
+    ensures versions { OnOk result (store.new.versions
+        ≡ (request_all hashes executions.old store.old.rows store.old.versions op key.now what.now).versions) }
+    ensures out { OnOk result (out.new
+        ≡ out.old ++ (request_all hashes executions.old store.old.rows store.old.versions op key.now what.now).outs) }
+    ensures numbers { IsErrOf result StepRefused.NumbersEnd ↔ IsTrue (requests_end_numbers hashes executions.old key.now) }
 {
-    match primary {
-        None => {
-            out.push(Output::Answer {
-                op,
-                outcome: Outcome::NotServing,
-            })?;
-            Ok(())
-        }
-        Some(primary) => primary.request(alloc, op, key, what, store, out),
-    }
+    let Some(place) = place_for(executions, key, hashes) else {
+        out.push(Output::Answer {
+            op,
+            outcome: Outcome::NotServing,
+        })?;
+        return Ok(());
+    };
+    executions[place].request(alloc, op, key, what, store, out)?;
+    Ok(())
 }
 
 /// A client gives up its operation.
-pub fn give_up(
-    primary: &mut Option<Primary>,
-    op: OpId,
-    out: &mut Outputs,
-) -> Result<(), OutOfMemory>
-    ensures primary { OnOk result (primary.new ≡ give_up_primary primary.old op) }
-    ensures out { OnOk result (out.new ≡ out.old ++ give_up_parts primary.old op) }
+pub fn give_up(executions: &mut [Primary], op: OpId, out: &mut Outputs) -> Result<(), OutOfMemory>
+    ensures executions { OnOk result (executions.new ≡ give_up_all executions.old op) }
+    ensures out { OnOk result (out.new ≡ out.old ++ give_up_all_outs executions.old op) }
 {
-    match primary {
-        None => Ok(()),
-        Some(primary) => primary.give_up(op, out),
+    for execution in executions.iter_mut() {
+        execution.give_up(op, out)?;
     }
+    Ok(())
 }
 
-/// The network brings a part of a primary's stream.
+/// The place of the following that a part of a stream comes to.
+fn place_of(followings: &[Following], from: NodeId, stream: &Stream) -> Option<usize>
+    ensures { result ≡ position (λ f. is_ours f from stream.now) followings.now }
+{
+    followings
+        .iter()
+        .position(|following| following.is_ours(from, stream))
+}
+
+/// The network brings a part of a primary's stream: the following that has the part's session takes it.
 pub fn take_stream(
-    following: &mut Option<Following>,
-    store: &mut PlainRows,
+    followings: &mut [Following],
+    store: &mut PlainStore,
     alloc: Global,
     from: NodeId,
     stream: &Stream,
     out: &mut Outputs,
 ) -> Result<(), StepRefused>
-    ensures following { OnOk result (following.new ≡ stream_following following.old store.old from stream.now) }
-    ensures store { OnOk result (store.new ≡ stream_rows following.old store.old from stream.now) }
-    ensures out { OnOk result (out.new ≡ out.old ++ stream_outs following.old store.old from stream.now) }
-    ensures numbers { IsErrOf result StepRefused.NumbersEnd
-        ↔ IsTrue (take_stream_ends_numbers following.old from stream.now) }
+    ensures followings { OnOk result (followings.new
+        ≡ (stream_all followings.old store.old.rows store.old.versions from stream.now 0).followings) }
+    ensures rows { OnOk result (store.new.rows
+        ≡ (stream_all followings.old store.old.rows store.old.versions from stream.now 0).rows) }
+    ensures versions { OnOk result (store.new.versions
+        ≡ (stream_all followings.old store.old.rows store.old.versions from stream.now 0).versions) }
+    ensures out { OnOk result (out.new
+        ≡ out.old ++ (stream_all followings.old store.old.rows store.old.versions from stream.now 0).outs) }
+    ensures numbers { IsErrOf result StepRefused.NumbersEnd ↔ IsTrue (streams_end_numbers followings.old from stream.now) }
 {
-    match following {
-        None => Ok(()),
-        Some(following) => following.stream(alloc, from, stream, 0, store, out),
-    }
+    let Some(place) = place_of(followings, from, stream) else {
+        return Ok(());
+    };
+    followings[place].stream(alloc, from, stream, 0, store, out)?;
+    Ok(())
 }
 
 /// The network brings a secondary's word of how far it came.
-pub fn take_got(primary: &mut Option<Primary>, from: NodeId, got: &Got)
-    requires { from.0 < 64 }
-    ensures { primary.new ≡ got_primary primary.old from got.now }
+pub fn take_got(executions: &mut [Primary], from: NodeId, got: &Got)
+    ensures { executions.new ≡ got_all executions.old from got.now }
 {
-    match primary {
-        None => {}
-        Some(primary) => primary.got(from, got),
+    for execution in executions.iter_mut() {
+        execution.got(from, got);
     }
 }
 
-/// What ends each step: a primary answers the operations that are decided.
-pub fn decide(primary: &mut Option<Primary>, out: &mut Outputs) -> Result<(), OutOfMemory>
-    ensures primary { OnOk result (primary.new ≡ decided_primary primary.old) }
-    ensures out { OnOk result (out.new ≡ out.old ++ decided_parts primary.old) }
+/// What ends each step: each execution answers the operations that are decided.
+pub fn decide(executions: &mut [Primary], out: &mut Outputs) -> Result<(), OutOfMemory>
+    ensures executions { OnOk result (executions.new ≡ decide_all executions.old) }
+    ensures out { OnOk result (out.new ≡ out.old ++ decide_all_outs executions.old) }
 {
-    match primary {
-        None => Ok(()),
-        Some(primary) => primary.decide(out),
+    for execution in executions.iter_mut() {
+        execution.decide(out)?;
     }
+    Ok(())
 }
