@@ -17,6 +17,33 @@ use store_api::{Item, Row, Store};
 #[derive(Debug, Drop)]
 struct Outside;
 
+/// Keys of all hashes, cut at a key of one byte.
+#[derive(Clone, Copy)]
+enum Span {
+    All,
+    Below(u8),
+    From(u8),
+}
+
+/// A call of a store, or what is seen of it. A key is one byte, and a row is its recency with whether it has a
+/// value.
+#[derive(Clone, Copy)]
+enum Step {
+    /// The part goes on in this branch from timestamp 0.
+    Starts(Span, u64),
+    /// All keys come to this point of this branch, one of them with a row or without it.
+    Advances(u64, u64, Option<(u8, Option<(u64, bool)>)>),
+    /// All keys get this version, and two of them these rows.
+    Replaces(Version, [(u8, Option<(u64, bool)>); 2]),
+    Erases(Span),
+    HasRow(u8, Option<(u64, bool)>),
+    HasVersion(u8, Version),
+    /// The versions of the part have this one for a key.
+    SeesVersion(Span, u8, Option<Version>),
+    /// A scan of the part finds these keys, above this bound and up to this limit.
+    Finds(Span, u64, usize, &'static [u8]),
+}
+
 fn id(counter: u64) -> Id {
     Id {
         node: NodeId(0),
@@ -38,63 +65,60 @@ fn key(alloc: Global, byte: u8) -> Result<Key, Fail> {
     Ok(Key::new(bytes)?)
 }
 
-fn written(alloc: Global, byte: u8, recency: u64) -> Result<Item, Fail> {
+fn item(alloc: Global, byte: u8, row: Option<(u64, bool)>) -> Result<Item, Fail> {
+    let key = key(alloc, byte)?;
+    let Some((recency, has_value)) = row else {
+        return Ok(Item { key, row: None });
+    };
+    let value = value(alloc, has_value)?;
+    Ok(Item {
+        key,
+        row: Some(Row { value, recency }),
+    })
+}
+
+fn value(alloc: Global, has_value: bool) -> Result<Option<Value>, Fail> {
+    if !has_value {
+        return Ok(None);
+    }
     let bytes = Vec::from_slice(alloc, b"v")?;
-    Ok(Item {
-        key: key(alloc, byte)?,
-        row: Some(Row {
-            value: Some(Value::new(bytes)?),
-            recency,
-        }),
-    })
+    Ok(Some(Value::new(bytes)?))
 }
 
-fn deleted(alloc: Global, byte: u8, recency: u64) -> Result<Item, Fail> {
-    Ok(Item {
-        key: key(alloc, byte)?,
-        row: Some(Row {
-            value: None,
-            recency,
-        }),
-    })
-}
-
-fn gone(alloc: Global, byte: u8) -> Result<Item, Fail> {
-    Ok(Item {
-        key: key(alloc, byte)?,
-        row: None,
-    })
-}
-
-fn both(alloc: Global, first: Item, second: Item) -> Result<Vec<Item>, Fail> {
-    let mut items = Vec::new(alloc);
-    items.push(first)?;
-    items.push(second)?;
-    Ok(items)
-}
-
-/// The keys of all hashes from one bound up to but without another.
-fn range(hashes: u8, from: Option<Key>, to: Option<Key>) -> Region {
-    Region {
+fn region(alloc: Global, hash_to: u8, span: Span) -> Result<Region, Fail> {
+    let (from, to) = match span {
+        Span::All => (None, None),
+        Span::Below(byte) => (None, Some(key(alloc, byte)?)),
+        Span::From(byte) => (Some(key(alloc, byte)?), None),
+    };
+    Ok(Region {
         hash_from: 0,
-        hash_to: hashes,
+        hash_to,
         from,
         to,
-    }
+    })
 }
 
-/// The recency of the row of a key, where it has one, with whether it has a value.
-fn row_of<T: Store>(alloc: Global, store: &T, byte: u8) -> Result<Option<(u64, bool)>, Fail> {
-    let key = key(alloc, byte)?;
-    match store.get(&key) {
-        None => Ok(None),
-        Some(row) => Ok(Some((row.recency, row.value.is_some()))),
-    }
+fn starts<T: Store>(alloc: Global, store: &mut T, span: Span, branch: u64) -> Result<(), Fail> {
+    let part = region(alloc, store.hashes(), span)?;
+    store.start_branch(alloc, &part, id(branch), 0)?;
+    Ok(())
 }
 
-fn version_of<T: Store>(alloc: Global, store: &T, byte: u8) -> Result<Version, Fail> {
-    let key = key(alloc, byte)?;
-    Ok(store.version(&key))
+fn advances<T: Store>(
+    alloc: Global,
+    store: &mut T,
+    branch: u64,
+    at: u64,
+    effect: Option<(u8, Option<(u64, bool)>)>,
+) -> Result<(), Fail> {
+    let all = region(alloc, store.hashes(), Span::All)?;
+    let effect = match effect {
+        None => None,
+        Some((byte, row)) => Some(item(alloc, byte, row)?),
+    };
+    store.advance(alloc, &all, id(branch), at, effect)?;
+    Ok(())
 }
 
 /// Whether the items lie in the part.
@@ -109,16 +133,51 @@ fn lie_in(part: &Region, hashes: u8, items: &[Item]) -> Result<(), Outside>
     }
 }
 
-fn replace<T: Store>(
+fn replaces<T: Store>(
     alloc: Global,
     store: &mut T,
-    part: &Region,
-    items: &[Item],
     version: Version,
+    rows: [(u8, Option<(u64, bool)>); 2],
 ) -> Result<(), Fail> {
-    lie_in(part, store.hashes(), items)?;
-    store.replace_range(alloc, part, items, &version)?;
+    let all = region(alloc, store.hashes(), Span::All)?;
+    let mut items = Vec::new(alloc);
+    for (byte, row) in rows {
+        items.push(item(alloc, byte, row)?)?;
+    }
+    lie_in(&all, store.hashes(), &items)?;
+    store.replace_range(alloc, &all, &items, &version)?;
     Ok(())
+}
+
+fn erases<T: Store>(alloc: Global, store: &mut T, span: Span) -> Result<(), Fail> {
+    let part = region(alloc, store.hashes(), span)?;
+    store.erase_range(alloc, &part)?;
+    Ok(())
+}
+
+fn row_of<T: Store>(alloc: Global, store: &T, byte: u8) -> Result<Option<(u64, bool)>, Fail> {
+    let key = key(alloc, byte)?;
+    match store.get(&key) {
+        None => Ok(None),
+        Some(row) => Ok(Some((row.recency, row.value.is_some()))),
+    }
+}
+
+fn version_of<T: Store>(alloc: Global, store: &T, byte: u8) -> Result<Version, Fail> {
+    let key = key(alloc, byte)?;
+    Ok(store.version(&key))
+}
+
+fn version_in<T: Store>(
+    alloc: Global,
+    store: &T,
+    span: Span,
+    byte: u8,
+) -> Result<Option<Version>, Fail> {
+    let part = region(alloc, store.hashes(), span)?;
+    let key = key(alloc, byte)?;
+    let versions = store.versions(alloc, &part)?;
+    Ok(versions.get(&key).copied())
 }
 
 /// The same bound for each key of a part.
@@ -131,124 +190,144 @@ fn bounds(alloc: Global, part: &Region, hashes: u8, bound: u64) -> Result<Region
     Ok(bounds)
 }
 
-fn newer<T: Store>(
+fn finds<T: Store>(
     alloc: Global,
     store: &T,
-    part: &Region,
+    span: Span,
     bound: u64,
     limit: usize,
-) -> Result<Vec<Key>, Fail> {
-    let above = bounds(alloc, part, store.hashes(), bound)?;
-    let keys = store.scan(alloc, part, &above, limit)?;
-    Ok(keys)
+    wanted: &[u8],
+) -> Result<bool, Fail> {
+    let part = region(alloc, store.hashes(), span)?;
+    let above = bounds(alloc, &part, store.hashes(), bound)?;
+    let keys = store.scan(alloc, &part, &above, limit)?;
+    if keys.len() != wanted.len() {
+        return Ok(false);
+    }
+    for i in 0..keys.len() {
+        if keys[i] != key(alloc, wanted[i])? {
+            return Ok(false);
+        }
+    }
+    Ok(true)
+}
+
+/// Makes the call, or tells whether what is seen of the store is so.
+fn holds<T: Store>(alloc: Global, store: &mut T, step: Step) -> Result<bool, Fail> {
+    match step {
+        Step::Starts(span, branch) => starts(alloc, store, span, branch)?,
+        Step::Advances(branch, at, effect) => advances(alloc, store, branch, at, effect)?,
+        Step::Replaces(version, rows) => replaces(alloc, store, version, rows)?,
+        Step::Erases(span) => erases(alloc, store, span)?,
+        Step::HasRow(byte, row) => return Ok(row_of(alloc, store, byte)? == row),
+        Step::HasVersion(byte, version) => {
+            return Ok(version_of(alloc, store, byte)? == version);
+        }
+        Step::SeesVersion(span, byte, version) => {
+            return Ok(version_in(alloc, store, span, byte)? == version);
+        }
+        Step::Finds(span, bound, limit, keys) => {
+            return finds(alloc, store, span, bound, limit, keys);
+        }
+    }
+    Ok(true)
+}
+
+/// The number of the first step that does not hold.
+fn first_wrong<T: Store>(
+    alloc: Global,
+    store: &mut T,
+    steps: &[Step],
+) -> Result<Option<usize>, Fail> {
+    for i in 0..steps.len() {
+        if !holds(alloc, store, steps[i])? {
+            return Ok(Some(i));
+        }
+    }
+    Ok(None)
 }
 
 /// A receiver with a of recency 1 and b of recency 2 is told that a was deleted at 3 and that b is not there.
-fn is_backfilled<T: Store>(alloc: Global, store: &mut T) -> Result<bool, Fail> {
-    let all = range(store.hashes(), None, None);
-    let had = both(alloc, written(alloc, b'a', 1)?, written(alloc, b'b', 2)?)?;
-    replace(alloc, store, &all, &had, at(1, 2))?;
-    let newer = newer(alloc, store, &all, 1, 64)?;
-    let finds_b = newer.len() == 1 && newer[0] == key(alloc, b'b')?;
-    let told = both(alloc, deleted(alloc, b'a', 3)?, gone(alloc, b'b')?)?;
-    replace(alloc, store, &all, &told, at(2, 3))?;
-    let rows = row_of(alloc, store, b'a')? == Some((3, false))
-        && row_of(alloc, store, b'b')?.is_none();
-    let versions = version_of(alloc, store, b'a')? == at(2, 3)
-        && version_of(alloc, store, b'z')? == at(2, 3);
-    Ok(finds_b && rows && versions)
-}
-
 #[test]
 fn a_backfill_replaces_rows_and_versions(rt: HostRuntime) -> Result<(), Fail> {
-    let alloc = rt.alloc();
-    let mut store = PlainStore::new(alloc, 2)?;
-    assert!(rt; is_backfilled(alloc, &mut store)?);
-    Ok(())
-}
-
-/// The keys below m go on in branch 1, the others in branch 2, both from timestamp 0.
-fn fork<T: Store>(alloc: Global, store: &mut T) -> Result<(), Fail> {
-    let hashes = store.hashes();
-    let low = range(hashes, None, Some(key(alloc, b'm')?));
-    let high = range(hashes, Some(key(alloc, b'm')?), None);
-    store.start_branch(alloc, &low, id(1), 0)?;
-    store.start_branch(alloc, &high, id(2), 0)?;
+    let mut store = PlainStore::new(rt.alloc(), 2)?;
+    let steps = [
+        Step::Replaces(at(1, 2), [(b'a', Some((1, true))), (b'b', Some((2, true)))]),
+        Step::Finds(Span::All, 1, 64, b"b"),
+        Step::Replaces(at(2, 3), [(b'a', Some((3, false))), (b'b', None)]),
+        Step::HasRow(b'a', Some((3, false))),
+        Step::HasRow(b'b', None),
+        Step::HasVersion(b'a', at(2, 3)),
+        Step::HasVersion(b'z', at(2, 3)),
+    ];
+    assert_eq!(rt; first_wrong(rt.alloc(), &mut store, &steps)?, None);
     Ok(())
 }
 
 /// What stands on the branch below the timestamp moves, with the effect; the other branch stays, without it.
-fn advances_what_is_behind<T: Store>(alloc: Global, store: &mut T) -> Result<bool, Fail> {
-    let all = range(store.hashes(), None, None);
-    fork(alloc, store)?;
-    let a = written(alloc, b'a', 5)?;
-    store.advance(alloc, &all, id(1), 5, Some(a.copy(alloc)?))?;
-    let moved = version_of(alloc, store, b'a')? == at(1, 5)
-        && version_of(alloc, store, b'b')? == at(1, 5);
-    let stayed = version_of(alloc, store, b'm')? == at(2, 0)
-        && version_of(alloc, store, b'z')? == at(2, 0);
-    let z = written(alloc, b'z', 6)?;
-    store.advance(alloc, &all, id(1), 6, Some(z))?;
-    let rows = row_of(alloc, store, b'a')? == Some((5, true))
-        && row_of(alloc, store, b'z')?.is_none();
-    Ok(moved && stayed && rows && version_of(alloc, store, b'z')? == at(2, 0))
+#[test]
+fn an_advance_moves_what_is_behind_on_the_branch(rt: HostRuntime) -> Result<(), Fail> {
+    let mut store = PlainStore::new(rt.alloc(), 2)?;
+    let steps = [
+        Step::Starts(Span::Below(b'm'), 1),
+        Step::Starts(Span::From(b'm'), 2),
+        Step::Advances(1, 5, Some((b'a', Some((5, true))))),
+        Step::HasVersion(b'a', at(1, 5)),
+        Step::HasVersion(b'b', at(1, 5)),
+        Step::HasVersion(b'm', at(2, 0)),
+        Step::HasVersion(b'z', at(2, 0)),
+        Step::Advances(1, 6, Some((b'z', Some((6, true))))),
+        Step::HasRow(b'a', Some((5, true))),
+        Step::HasRow(b'z', None),
+        Step::HasVersion(b'z', at(2, 0)),
+    ];
+    assert_eq!(rt; first_wrong(rt.alloc(), &mut store, &steps)?, None);
+    Ok(())
 }
 
 /// What stands at the timestamp or above it stays, and an effect there changes nothing.
-fn never_goes_back<T: Store>(alloc: Global, store: &mut T) -> Result<bool, Fail> {
-    let all = range(store.hashes(), None, None);
-    fork(alloc, store)?;
-    store.advance(alloc, &all, id(1), 5, Some(written(alloc, b'a', 5)?))?;
-    store.advance(alloc, &all, id(1), 5, Some(deleted(alloc, b'a', 5)?))?;
-    store.advance(alloc, &all, id(1), 4, Some(gone(alloc, b'a')?))?;
-    let kept = row_of(alloc, store, b'a')? == Some((5, true))
-        && version_of(alloc, store, b'a')? == at(1, 5);
-    store.advance(alloc, &all, id(1), 6, None)?;
-    let later = row_of(alloc, store, b'a')? == Some((5, true))
-        && version_of(alloc, store, b'a')? == at(1, 6);
-    store.advance(alloc, &all, id(1), 7, Some(gone(alloc, b'a')?))?;
-    Ok(kept && later && row_of(alloc, store, b'a')?.is_none())
-}
-
 #[test]
-fn an_advance_moves_what_is_behind_on_the_branch(rt: HostRuntime) -> Result<(), Fail> {
-    let alloc = rt.alloc();
-    let mut store = PlainStore::new(alloc, 2)?;
-    assert!(rt; advances_what_is_behind(alloc, &mut store)?);
-    let mut other = PlainStore::new(alloc, 1)?;
-    assert!(rt; never_goes_back(alloc, &mut other)?);
+fn an_advance_never_goes_back(rt: HostRuntime) -> Result<(), Fail> {
+    let mut store = PlainStore::new(rt.alloc(), 1)?;
+    let steps = [
+        Step::Starts(Span::Below(b'm'), 1),
+        Step::Starts(Span::From(b'm'), 2),
+        Step::Advances(1, 5, Some((b'a', Some((5, true))))),
+        Step::Advances(1, 5, Some((b'a', Some((5, false))))),
+        Step::Advances(1, 4, Some((b'a', None))),
+        Step::HasRow(b'a', Some((5, true))),
+        Step::HasVersion(b'a', at(1, 5)),
+        Step::Advances(1, 6, None),
+        Step::HasRow(b'a', Some((5, true))),
+        Step::HasVersion(b'a', at(1, 6)),
+        Step::Advances(1, 7, Some((b'a', None))),
+        Step::HasRow(b'a', None),
+    ];
+    assert_eq!(rt; first_wrong(rt.alloc(), &mut store, &steps)?, None);
     Ok(())
 }
 
 /// The last item of a key counts; the keys outside of an erased part keep their rows and versions.
-fn erases_a_part_alone<T: Store>(alloc: Global, store: &mut T) -> Result<bool, Fail> {
-    let hashes = store.hashes();
-    let all = range(hashes, None, None);
-    let low = range(hashes, None, Some(key(alloc, b'm')?));
-    let twice = both(alloc, written(alloc, b'a', 1)?, deleted(alloc, b'a', 2)?)?;
-    replace(alloc, store, &all, &twice, at(1, 2))?;
-    let last = row_of(alloc, store, b'a')? == Some((2, false));
-    let others = both(alloc, written(alloc, b'b', 3)?, written(alloc, b'z', 4)?)?;
-    replace(alloc, store, &all, &others, at(1, 4))?;
-    let keys = newer(alloc, store, &low, 0, 64)?;
-    let first = newer(alloc, store, &all, 0, 1)?;
-    let found = keys.len() == 2 && keys[0] == key(alloc, b'a')? && keys[1] == key(alloc, b'b')?;
-    let limited = first.len() == 1 && first[0] == key(alloc, b'a')?;
-    store.erase_range(alloc, &low)?;
-    let erased = row_of(alloc, store, b'a')?.is_none()
-        && version_of(alloc, store, b'b')? == Version::zero();
-    let kept = row_of(alloc, store, b'z')? == Some((4, true))
-        && version_of(alloc, store, b'z')? == at(1, 4);
-    let versions = store.versions(alloc, &low)?;
-    let masked = versions.get(&key(alloc, b'a')?) == Some(&Version::zero())
-        && versions.get(&key(alloc, b'z')?).is_none();
-    Ok(last && found && limited && erased && kept && masked)
-}
-
 #[test]
 fn an_erased_part_has_no_rows_and_the_zero_version(rt: HostRuntime) -> Result<(), Fail> {
-    let alloc = rt.alloc();
-    let mut store = PlainStore::new(alloc, 4)?;
-    assert!(rt; erases_a_part_alone(alloc, &mut store)?);
+    let mut store = PlainStore::new(rt.alloc(), 4)?;
+    let steps = [
+        Step::Replaces(
+            at(1, 2),
+            [(b'a', Some((1, true))), (b'a', Some((2, false)))],
+        ),
+        Step::HasRow(b'a', Some((2, false))),
+        Step::Replaces(at(1, 4), [(b'b', Some((3, true))), (b'z', Some((4, true)))]),
+        Step::Finds(Span::Below(b'm'), 0, 64, b"ab"),
+        Step::Finds(Span::All, 0, 1, b"a"),
+        Step::Erases(Span::Below(b'm')),
+        Step::HasRow(b'a', None),
+        Step::HasVersion(b'b', Version::zero()),
+        Step::HasRow(b'z', Some((4, true))),
+        Step::HasVersion(b'z', at(1, 4)),
+        Step::SeesVersion(Span::Below(b'm'), b'a', Some(Version::zero())),
+        Step::SeesVersion(Span::Below(b'm'), b'z', None),
+    ];
+    assert_eq!(rt; first_wrong(rt.alloc(), &mut store, &steps)?, None);
     Ok(())
 }
