@@ -3,6 +3,7 @@ use Rattle.std.proofs.Common.{◌≡◌, ◌≢◌, ℕ, ◌+◌, ◌≤◌, tru
 use Rattle.std.proofs.lemmas.Bool.{false≢true, eqb-true, eq-eqb, or_left, or_right, or_cases}
 use Rattle.std.specs.List.{AllByRecursion}
 use Rattle.region_map.specs.declared.id.Id.{Id}
+use Rattle.contract_types.specs.Setup.{SetupState}
 use Rattle.register_laws.specs.declared.operation.OpId.{OpId}
 use Rattle.register_laws.specs.declared.operation.Op.{Op}
 use Rattle.register_laws.specs.declared.operation.Reply.{Reply}
@@ -69,74 +70,74 @@ has_point_of (p ∷ ps) op h =
 -- ---- what waits, and what was answered
 
 -- an operation that was requested took effect with this reply
-abbrev pub Waits : List Entry → Option OpId → Reply → Type 0
-Waits past None reply = Unit {0}
-Waits past (Some op) reply = (key : List ℕ) × (what : Op) × IsRequested past key op what × TookEffect (path past key) op what reply
+abbrev pub Waits : SetupState → List Entry → Option OpId → Reply → Type 0
+Waits setup past None reply = Unit {0}
+Waits setup past (Some op) reply = (key : List ℕ) × (what : Op) × IsRequested past key op what × TookEffect (path setup past key) op what reply
 
-pub record WaitsWell (past : List Entry) (d : Decided) : Type 0 where
-  pub waits : Waits past d.op d.reply
+pub record WaitsWell (setup : SetupState) (past : List Entry) (d : Decided) : Type 0 where
+  pub waits : Waits setup past d.op d.reply
 
-pub path-cons : (past : List Entry) (e : Entry) (key : List ℕ) → path (e ∷ past) key ≡ path past key ++ filter (is_on_path key) (points_of e.input e.outputs)
-path-cons past e key = filter-append (is_on_path key) (points past) (points_of e.input e.outputs)
+pub path-cons : (setup : SetupState) (past : List Entry) (e : Entry) (key : List ℕ) → path setup (e ∷ past) key ≡ path setup past key ++ filter (is_on_path setup key) (points_of e.input e.outputs)
+path-cons setup past e key = filter-append (is_on_path setup key) (points past) (points_of e.input e.outputs)
 
-pub Waits-more : (past : List Entry) (e : Entry) (op : Option OpId) (reply : Reply) → Waits past op reply → Waits (e ∷ past) op reply
-Waits-more past e None reply h = tt
-Waits-more past e (Some op) reply h = (
+pub Waits-more : (setup : SetupState) (past : List Entry) (e : Entry) (op : Option OpId) (reply : Reply) → Waits setup past op reply → Waits setup (e ∷ past) op reply
+Waits-more setup past e None reply h = tt
+Waits-more setup past e (Some op) reply h = (
   h.0,
   h.1,
   inr h.2,
-  subst (λ (l : List Point). TookEffect l op h.1 reply) (sym (path-cons past e h.0))
-      (TookEffect-more (path past h.0) op h.1 reply (filter (is_on_path h.0) (points_of e.input e.outputs)) h.3),
+  subst (λ (l : List Point). TookEffect l op h.1 reply) (sym (path-cons setup past e h.0))
+      (TookEffect-more (path setup past h.0) op h.1 reply (filter (is_on_path setup h.0) (points_of e.input e.outputs)) h.3),
 )
 
-pub WaitsWell-more : (past : List Entry) (e : Entry) (ds : List Decided) → AllByRecursion (WaitsWell past) ds → AllByRecursion (WaitsWell (e ∷ past)) ds
-WaitsWell-more past e [] h = tt
-WaitsWell-more past e (d ∷ ds) h = (record { waits = Waits-more past e d.op d.reply h.0.waits }, WaitsWell-more past e ds h.1)
+pub WaitsWell-more : (setup : SetupState) (past : List Entry) (e : Entry) (ds : List Decided) → AllByRecursion (WaitsWell setup past) ds → AllByRecursion (WaitsWell setup (e ∷ past)) ds
+WaitsWell-more setup past e [] h = tt
+WaitsWell-more setup past e (d ∷ ds) h = (record { waits = Waits-more setup past e d.op d.reply h.0.waits }, WaitsWell-more setup past e ds h.1)
 
 -- what a step may answer to an operation
-abbrev pub SaysWell : List Entry → Entry → OpId → Outcome → Type 0
-SaysWell past e op (Done reply branch timestamp) = Waits (e ∷ past) (Some op) reply
-SaysWell past e op NotServing = (requests e.input op ≡ true) × (points_of e.input e.outputs ≡ [])
-SaysWell past e op (NoMajority counts) = is_requested (e ∷ past) op ≡ true
+abbrev pub SaysWell : SetupState → List Entry → Entry → OpId → Outcome → Type 0
+SaysWell setup past e op (Done reply branch timestamp) = Waits setup (e ∷ past) (Some op) reply
+SaysWell setup past e op NotServing = (requests e.input op ≡ true) × (points_of e.input e.outputs ≡ [])
+SaysWell setup past e op (NoMajority counts) = is_requested (e ∷ past) op ≡ true
 
-pub record Says (past : List Entry) (e : Entry) (op : OpId) (outcome : Outcome) : Type 0 where
-  pub says : SaysWell past e op outcome
+pub record Says (setup : SetupState) (past : List Entry) (e : Entry) (op : OpId) (outcome : Outcome) : Type 0 where
+  pub says : SaysWell setup past e op outcome
 
-pub record History (past : List Entry) : Type 0 where
+pub record History (setup : SetupState) (past : List Entry) : Type 0 where
   pub requested : (p : Point) → IsIn (points past) p → IsRequested past p.key p.op p.what
   pub once : (op : OpId) → point_times (points past) op ≤ 1
   pub answered : (op : OpId) → is_answered past op ≡ true → is_requested past op ≡ true
-  pub done : (op : OpId) (reply : Reply) (branch : Id) (timestamp : ℕ) → answer past op ≡ Some (Done reply branch timestamp) → Waits past (Some op) reply
+  pub done : (op : OpId) (reply : Reply) (branch : Id) (timestamp : ℕ) → answer past op ≡ Some (Done reply branch timestamp) → Waits setup past (Some op) reply
   pub served : (op : OpId) → has_point (points past) op ≡ true → answer past op ≢ Some NotServing
 
 -- what a step of a run adds to the history
-pub record Adds (past : List Entry) (e : Entry) : Type 0 where
+pub record Adds (setup : SetupState) (past : List Entry) (e : Entry) : Type 0 where
   pub fresh : is_fresh past e.input ≡ true
   pub new : (p : Point) → IsIn (points_of e.input e.outputs) p → Requests e.input p.key p.op p.what
   pub few : (op : OpId) → point_times (points_of e.input e.outputs) op ≤ 1
-  pub says : (op : OpId) (outcome : Outcome) → answer_in e.outputs op ≡ Some outcome → Says past e op outcome
+  pub says : (op : OpId) (outcome : Outcome) → answer_in e.outputs op ≡ Some outcome → Says setup past e op outcome
 
-says_requested : (past : List Entry) (e : Entry) (op : OpId) (outcome : Outcome) → SaysWell past e op outcome → is_requested (e ∷ past) op ≡ true
-says_requested past e op (Done reply branch timestamp) h = IsRequested-test (e ∷ past) h.0 op h.1 h.2
-says_requested past e op NotServing h = or_left (requests e.input op) (is_requested past op) h.0
-says_requested past e op (NoMajority counts) h = h
+says_requested : (setup : SetupState) (past : List Entry) (e : Entry) (op : OpId) (outcome : Outcome) → SaysWell setup past e op outcome → is_requested (e ∷ past) op ≡ true
+says_requested setup past e op (Done reply branch timestamp) h = IsRequested-test (e ∷ past) h.0 op h.1 h.2
+says_requested setup past e op NotServing h = or_left (requests e.input op) (is_requested past op) h.0
+says_requested setup past e op (NoMajority counts) h = h
 
-History-requested : (past : List Entry) (e : Entry) → History past → Adds past e → (p : Point) → IsIn (points (e ∷ past)) p → IsRequested (e ∷ past) p.key p.op p.what
-History-requested past e h a p i =
+History-requested : (setup : SetupState) (past : List Entry) (e : Entry) → History setup past → Adds setup past e → (p : Point) → IsIn (points (e ∷ past)) p → IsRequested (e ∷ past) p.key p.op p.what
+History-requested setup past e h a p i =
     elim (IsIn-append (points past) (points_of e.input e.outputs) p i) [
       | inl old ↦ inr (h.requested p old)
       | inr new ↦ inl (a.new p new)
     ]
 
 -- an operation with an old point and a new one
-twice : (past : List Entry) (e : Entry) → History past → Adds past e → (op : OpId) (p q : Point) → IsIn (points past) p → p.op ≡ op → IsIn (points_of e.input e.outputs) q → q.op ≡ op → ⊥
-twice past e h a op p q i pe j qe =
+twice : (setup : SetupState) (past : List Entry) (e : Entry) → History setup past → Adds setup past e → (op : OpId) (p q : Point) → IsIn (points past) p → p.op ≡ op → IsIn (points_of e.input e.outputs) q → q.op ≡ op → ⊥
+twice setup past e h a op p q i pe j qe =
     let new : requests e.input op ≡ true = ap (requests e.input) (sym qe) ∙ Requests-test e.input q.key q.op q.what (a.new q j) in
     let old : is_requested past op ≡ true = ap (is_requested past) (sym pe) ∙ IsRequested-test past p.key p.op p.what (h.requested p i) in
     fresh_apart past e.input op a.fresh new old
 
-History-once : (past : List Entry) (e : Entry) → History past → Adds past e → (op : OpId) → point_times (points (e ∷ past)) op ≤ 1
-History-once past e h a op =
+History-once : (setup : SetupState) (past : List Entry) (e : Entry) → History setup past → Adds setup past e → (op : OpId) → point_times (points (e ∷ past)) op ≤ 1
+History-once setup past e h a op =
     let sum = point_times-append (points past) (points_of e.input e.outputs) op in
     let old = h.once op in
     let new = a.few op in
@@ -144,30 +145,30 @@ History-once past e h a op =
       | inl z ↦ omega (arith, sum, old, new, z)
       | inr p ↦ elim (point_times_or (points_of e.input e.outputs) op) [
         | inl z ↦ omega (arith, sum, old, new, z)
-        | inr q ↦ absurd (twice past e h a op p.0 q.0 p.1 p.2 q.1 q.2)
+        | inr q ↦ absurd (twice setup past e h a op p.0 q.0 p.1 p.2 q.1 q.2)
       ]
     ]
 
-History-answered : (past : List Entry) (e : Entry) → History past → Adds past e → (op : OpId) → is_answered (e ∷ past) op ≡ true → is_requested (e ∷ past) op ≡ true
-History-answered past e h a op =
+History-answered : (setup : SetupState) (past : List Entry) (e : Entry) → History setup past → Adds setup past e → (op : OpId) → is_answered (e ∷ past) op ≡ true → is_requested (e ∷ past) op ≡ true
+History-answered setup past e h a op =
     elim (answer past op) as (λ v. answer past op ≡ v → is_answered_outcome (or_else v (answer_in e.outputs op)) ≡ true → is_requested (e ∷ past) op ≡ true) [
       | Some outcome ↦ λ is _. or_right (requests e.input op) (is_requested past op) (h.answered op (ap is_answered_outcome is))
       | None ↦ λ _ k.
           elim (answer_in e.outputs op) as (λ v. answer_in e.outputs op ≡ v → is_answered_outcome v ≡ true → is_requested (e ∷ past) op ≡ true) [
-            | Some outcome ↦ λ is _. says_requested past e op outcome (a.says op outcome is).says
+            | Some outcome ↦ λ is _. says_requested setup past e op outcome (a.says op outcome is).says
             | None ↦ λ _ no'. absurd (false≢true no')
           ] refl k
     ] refl
 
-History-done : (past : List Entry) (e : Entry) → History past → Adds past e → (op : OpId) (reply : Reply) (branch : Id) (timestamp : ℕ) → answer (e ∷ past) op ≡ Some (Done reply branch timestamp) → Waits (e ∷ past) (Some op) reply
-History-done past e h a op reply branch timestamp =
-    elim (answer past op) as (λ v. answer past op ≡ v → or_else v (answer_in e.outputs op) ≡ Some (Done reply branch timestamp) → Waits (e ∷ past) (Some op) reply) [
-      | Some outcome ↦ λ is k. Waits-more past e (Some op) reply (h.done op reply branch timestamp (is ∙ k))
+History-done : (setup : SetupState) (past : List Entry) (e : Entry) → History setup past → Adds setup past e → (op : OpId) (reply : Reply) (branch : Id) (timestamp : ℕ) → answer (e ∷ past) op ≡ Some (Done reply branch timestamp) → Waits setup (e ∷ past) (Some op) reply
+History-done setup past e h a op reply branch timestamp =
+    elim (answer past op) as (λ v. answer past op ≡ v → or_else v (answer_in e.outputs op) ≡ Some (Done reply branch timestamp) → Waits setup (e ∷ past) (Some op) reply) [
+      | Some outcome ↦ λ is k. Waits-more setup past e (Some op) reply (h.done op reply branch timestamp (is ∙ k))
       | None ↦ λ _ k. (a.says op (Done reply branch timestamp) k).says
     ] refl
 
-History-served : (past : List Entry) (e : Entry) → History past → Adds past e → (op : OpId) → has_point (points (e ∷ past)) op ≡ true → answer (e ∷ past) op ≢ Some NotServing
-History-served past e h a op has =
+History-served : (setup : SetupState) (past : List Entry) (e : Entry) → History setup past → Adds setup past e → (op : OpId) → has_point (points (e ∷ past)) op ≡ true → answer (e ∷ past) op ≢ Some NotServing
+History-served setup past e h a op has =
     let where' = or_cases (has_point (points past) op) (has_point (points_of e.input e.outputs) op) (sym (has_point-append (points past) (points_of e.input e.outputs) op) ∙ has) in
     elim (answer past op) as (λ v. answer past op ≡ v → or_else v (answer_in e.outputs op) ≢ Some NotServing) [
       | Some outcome ↦ λ is k.
@@ -179,7 +180,7 @@ History-served past e h a op has =
                 fresh_apart past e.input op a.fresh req (h.answered op (ap is_answered_outcome is))
           ]
       | None ↦ λ _ k.
-          let s : SaysWell past e op NotServing = (a.says op NotServing k).says in
+          let s : SaysWell setup past e op NotServing = (a.says op NotServing k).says in
           elim where' [
             | inl old ↦
                 let p = has_point_of (points past) op old in
@@ -189,18 +190,18 @@ History-served past e h a op has =
           ]
     ] refl
 
-pub History-more : (past : List Entry) (e : Entry) → History past → Adds past e → History (e ∷ past)
-History-more past e h a =
+pub History-more : (setup : SetupState) (past : List Entry) (e : Entry) → History setup past → Adds setup past e → History setup (e ∷ past)
+History-more setup past e h a =
     record {
-      requested = History-requested past e h a;
-      once = History-once past e h a;
-      answered = History-answered past e h a;
-      done = History-done past e h a;
-      served = History-served past e h a;
+      requested = History-requested setup past e h a;
+      once = History-once setup past e h a;
+      answered = History-answered setup past e h a;
+      done = History-done setup past e h a;
+      served = History-served setup past e h a;
     }
 
-pub History-nil : History []
-History-nil =
+pub History-nil : (setup : SetupState) → History setup []
+History-nil setup =
     record {
       requested = λ p i. absurd i;
       once = λ op. omega arith;

@@ -1,8 +1,10 @@
 -- "No majority" is answered only where a pending operation was given up, with the counts that it then had.
-use Rattle.std.proofs.Common.{◌≡◌, ℕ, ◌+◌, true, false, cond, List, [], ◌∷◌, ◌++◌, map, filter, Option, Some, None, refl, sym, ap, ◌∙◌, subst, inl, inr}
-use Rattle.std.proofs.lemmas.Bool.{cond_both}
+use Rattle.std.proofs.Common.{◌≡◌, ℕ, ◌+◌, ◌≤◌, true, false, cond, List, [], ◌∷◌, ◌++◌, map, filter, Option, Some, None, refl, sym, ap, ◌∙◌, subst, inl, inr, arith}
+use Rattle.std.proofs.lemmas.Bool.{cond_both, eq-eqb, ltb-true}
 use Rattle.region_map.specs.declared.id.Id.{Id}
 use Rattle.region_map.specs.declared.id.NodeId.{NodeId}
+use Rattle.region_map.specs.Maps.{Pieced}
+use Rattle.branch_history.specs.declared.version.Version.{Version}
 use Rattle.register_laws.specs.declared.operation.OpId.{OpId}
 use Rattle.register_laws.specs.declared.operation.Op.{Op}
 use Rattle.register_laws.specs.Lists.{same_op}
@@ -12,27 +14,30 @@ use Rattle.exec_types.specs.declared.input.Input.{Input}
 use Rattle.exec_types.specs.declared.input.Input.TheVariants.{Request, GiveUp, Deliver}
 use Rattle.exec_types.specs.declared.message.Message.{Message as Sent}
 use Rattle.exec_types.specs.declared.message.Message.TheVariants as message
-use Rattle.exec_types.specs.declared.message.Got.{Got}
 use Rattle.exec_types.specs.declared.message.Part.{Part}
+use Rattle.exec_types.specs.declared.message.Stream.{Stream}
 use Rattle.exec_types.specs.declared.outcome.Outcome.{Outcome}
 use Rattle.exec_types.specs.declared.outcome.Outcome.TheVariants.{Done, NotServing, NoMajority}
 use Rattle.exec_types.specs.declared.output.Output.{Output}
 use Rattle.exec_types.specs.declared.output.Output.TheVariants.{Dispatched, Answer}
-use Rattle.store_plain.specs.Rows.{Rows, value_of}
+use Rattle.store_api.specs.Rows.{Rows, value_of}
 use Rattle.write_dispatch.specs.declared.decided.Decided.{Decided}
-use Rattle.write_dispatch.specs.Dispatch.{counts_of, are_majorities, is_decided, pending_of}
+use Rattle.write_dispatch.specs.Dispatch.{counts_of, are_majorities, is_decided, pending_of, is_of}
 use Rattle.primary_exec.specs.declared.session.Session.{Session}
-use Rattle.primary_exec.specs.Execution.{Execution, has_room, sends, part_of, dispatch_row, answers, decides, decided_answers, decide_outs, given_up, give_up_row, give_up_outs}
+use Rattle.primary_exec.specs.Execution.{Execution, has_room, sends, part_of, dispatch_row, answers, decides, decided_answers, decide_outs, given_up, give_up_outs}
 use Rattle.secondary_exec.specs.declared.following.Following.{Following}
+use Rattle.secondary_exec.specs.Stream.{stream_row, is_ours}
 use Rattle.node_core.specs.declared.node.Brought.{Brought}
 use Rattle.node_core.specs.declared.journal.Entry.{Entry}
-use Rattle.node_core.specs.Parts.{request_outs}
-use Rattle.node_core.specs.Step.{NodeState, Stepped, silent, give_up, take_stream, take_got, message_row, is_well_formed, brought_row, input_row, end_step, node_step}
+use Rattle.node_core.specs.Parts.{Requested, Streamed, is_for, dispatched, passed_on, request_all, taken, left_alone, stream_all, give_up_all_outs, decide_all_outs}
+use Rattle.node_core.specs.Step.{NodeState, Stepped, silent, message_row, is_well_formed, brought_row, input_row, node_step}
 use Rattle.world_core.specs.Run.{brought, state, IsRun}
 use Rattle.world_core.specs.Story.{answer_in, or_else, answer}
-use Rattle.world_core.specs.GivenUp.{counts_pending, pending_counts, IsGivenUpBy, IsGivenUp}
+use Rattle.world_core.specs.GivenUp.{counts_pending, or_counts, pending_counts, IsGivenUpBy, IsGivenUp}
 use Rattle.world_core.proofs.Facts.{same_op-true}
 use Rattle.world_core.proofs.Outs.{answer_in-append, answer_in-sends, answer_in-stream}
+use Rattle.world_core.proofs.Single.{one_if, waits_in, waits_over, given_leaves, waits_once}
+use Rattle.world_core.proofs.Table.{node_within}
 
 -- what an answer says of no majority, if it says that
 abbrev pub Tells : (Counts → Type 0) → Option Outcome → Type 0
@@ -62,19 +67,26 @@ Tells-decided P x (d ∷ ds) op =
     cond_both (decides x d) (answers x.branch d d.op ++ decided_answers x ds) [] (λ (l : List Output). Tells P (answer_in l op))
     (λ _. Tells-one P x.branch d d.op (decided_answers x ds) op (Tells-decided P x ds op)) (λ _. tt)
 
-Tells-end : (P : Counts → Type 0) (step : Stepped) (o : Option Execution) (op : OpId) → Tells P (answer_in step.outs op) → Tells P (answer_in (end_step step o).outs op)
-Tells-end P step None op h = h
-Tells-end P step (Some x) op h = Tells-append P step.outs (decide_outs x) op h (Tells-decided P x x.dispatch.waiting op)
+Tells-all_decided : (P : Counts → Type 0) (xs : List Execution) (op : OpId) → Tells P (answer_in (decide_all_outs xs) op)
+Tells-all_decided P [] op = tt
+Tells-all_decided P (x ∷ xs) op = Tells-append P (decide_outs x) (decide_all_outs xs) op (Tells-decided P x x.dispatch.waiting op) (Tells-all_decided P xs op)
 
 -- ---- the rows of the inputs
 
-Tells-request : (P : Counts → Type 0) (o : Option Execution) (rows : Rows) (q : OpId) (key : List ℕ) (what : Op) (op : OpId) → Tells P (answer_in (request_outs o rows q key what) op)
-Tells-request P None rows q key what op = cond_both (same_op q op) (Some NotServing) None (λ (v : Option Outcome). Tells P v) (λ _. tt) (λ _. tt)
-Tells-request P (Some x) rows q key what op =
+Tells-dispatch : (P : Counts → Type 0) (x : Execution) (rows : Rows) (versions : Pieced Version) (q : OpId) (key : List ℕ) (what : Op) (op : OpId) → Tells P (answer_in (dispatch_row x rows versions q key what).outs op)
+Tells-dispatch P x rows versions q key what op =
     let part : Part = part_of (value_of rows key) (x.last + 1) key what in
     let sessions : List Session = filter has_room x.sessions in
     Tells-append P (map (sends part) sessions) (Dispatched q key x.branch (x.last + 1) ∷ []) op
     (subst (λ (v : Option Outcome). Tells P v) (sym (answer_in-sends part sessions op)) tt) tt
+
+Tells-request : (P : Counts → Type 0) (hashes : ℕ) (xs : List Execution) (rows : Rows) (versions : Pieced Version) (q : OpId) (key : List ℕ) (what : Op) (op : OpId)
+    → Tells P (answer_in (request_all hashes xs rows versions q key what).outs op)
+Tells-request P hashes [] rows versions q key what op = cond_both (same_op q op) (Some NotServing) None (λ (v : Option Outcome). Tells P v) (λ _. tt) (λ _. tt)
+Tells-request P hashes (x ∷ xs) rows versions q key what op =
+    cond_both (is_for hashes key x) (dispatched (dispatch_row x rows versions q key what) xs) (passed_on x (request_all hashes xs rows versions q key what))
+    (λ (r : Requested). Tells P (answer_in r.outs op))
+    (λ _. Tells-dispatch P x rows versions q key what op) (λ _. Tells-request P hashes xs rows versions q key what op)
 
 -- what is pending is given up with its counts, where these are no majorities
 Tells-given : (P : Counts → Type 0) (x : Execution) (q op : OpId) (o : Option Decided)
@@ -87,46 +99,76 @@ Tells-given P x q op (Some d) h =
     (λ _. tt)
     (λ e. cond_both (same_op q op) (Some (NoMajority counts)) None (λ (v : Option Outcome). Tells P v) (λ same. h d refl same e) (λ _. tt))
 
--- the counts of what is given up, which are no majorities
-abbrev pub IsShort : NodeState → Input → OpId → Counts → Type 0
-IsShort s input op counts = IsGivenUpBy s input op counts × (are_majorities counts ≡ false)
+-- what does not wait is given up by none
+pending_none : (ds : List Decided) (q : OpId) → waits_in ds q ≡ 0 → pending_of ds q ≡ None
+pending_none [] q h = refl
+pending_none (d ∷ ds) q h =
+    elim (is_of q d.op) as (λ c. one_if c + waits_in ds q ≡ 0 → cond c (Some d) (pending_of ds q) ≡ None) [
+      | true ↦ λ k. absurd (omega arith)
+      | false ↦ λ k. pending_none ds q (omega arith)
+    ] h
 
-Tells-give_up : (s : NodeState) (o : Option Execution) (q op : OpId) → s.primary ≡ o → Tells (IsShort s (GiveUp q) op) (answer_in (give_up s o q).outs op)
-Tells-give_up s None q op e = tt
-Tells-give_up s (Some x) q op e =
-    Tells-given (IsShort s (GiveUp q) op) x q op (pending_of x.dispatch.waiting q)
-    (λ d is same short.
-    let one : q ≡ op = same_op-true q op same in
-    ((one, ap (λ (v : Option Execution). pending_counts v op) e ∙ ap (λ (v : OpId). counts_pending x (pending_of x.dispatch.waiting v)) (sym one) ∙ ap (counts_pending x) is), short))
+none_given : (P : Counts → Type 0) (xs : List Execution) (q op : OpId) → waits_over xs q ≡ 0 → Tells P (answer_in (give_up_all_outs xs q) op)
+none_given P [] q op h = tt
+none_given P (x ∷ xs) q op h =
+    Tells-append P (give_up_outs x q) (give_up_all_outs xs q) op
+    (subst (λ (o : Option Decided). Tells P (answer_in (given_up x.dispatch.acks x.contract x.me.0 q o) op)) (sym (pending_none x.dispatch.waiting q (omega arith))) tt)
+    (none_given P xs q op (omega arith))
 
-Tells-got : (P : Counts → Type 0) (s : NodeState) (o : Option Execution) (from : NodeId) (got : Got) (op : OpId) → Tells P (answer_in (take_got s o from got).outs op)
-Tells-got P s None from got op = tt
-Tells-got P s (Some x) from got op = tt
+-- what waits at one execution alone is given up with its counts there
+Tells-give_up : (P : Counts → Type 0) (xs : List Execution) (q op : OpId) → waits_over xs q ≤ 1
+    → ((counts : Counts) → pending_counts xs q ≡ Some counts → same_op q op ≡ true → are_majorities counts ≡ false → P counts)
+    → Tells P (answer_in (give_up_all_outs xs q) op)
+Tells-give_up P [] q op once h = tt
+Tells-give_up P (x ∷ xs) q op once h =
+    elim (pending_of x.dispatch.waiting q) as (λ o. pending_of x.dispatch.waiting q ≡ o
+    → ((counts : Counts) → or_counts (counts_pending x o) (pending_counts xs q) ≡ Some counts → same_op q op ≡ true → are_majorities counts ≡ false → P counts)
+    → Tells P (answer_in (given_up x.dispatch.acks x.contract x.me.0 q o ++ give_up_all_outs xs q) op)) [
+      | None ↦ λ _ k. Tells-give_up P xs q op (omega arith) k
+      | Some d ↦ λ is k.
+          let here = given_leaves x.dispatch.waiting q q d is in
+          let one : one_if (same_op q q) ≡ 1 = ap one_if (eq-eqb q.0 q.0 refl) in
+          Tells-append P (given_up x.dispatch.acks x.contract x.me.0 q (Some d)) (give_up_all_outs xs q) op
+          (Tells-given P x q op (Some d) (λ other same' same short. k (counts_of x.dispatch.acks x.contract x.me.0 other.at) (ap (λ (v : Option Decided). or_counts (counts_pending x v) (pending_counts xs q)) same') same short))
+          (none_given P xs q op (omega arith))
+    ] refl h
 
-Tells-message : (P : Counts → Type 0) (s : NodeState) (o : Option Following) (from : NodeId) (m : Sent) (op : OpId) → s.following ≡ o → Tells P (answer_in (message_row s from m).outs op)
-Tells-message P s None from (message.Stream stream) op e = subst (λ (v : Option Following). Tells P (answer_in (take_stream s v from stream).outs op)) (sym e) tt
-Tells-message P s (Some f) from (message.Stream stream) op e =
-    subst (λ (v : Option Following). Tells P (answer_in (take_stream s v from stream).outs op)) (sym e)
-    (subst (λ (v : Option Outcome). Tells P v) (sym (answer_in-stream f s.rows from stream 0 op)) tt)
-Tells-message P s o from (message.Got got) op e = Tells-got P s s.primary from got op
+Tells-stream : (P : Counts → Type 0) (fs : List Following) (rows : Rows) (versions : Pieced Version) (from : NodeId) (stream : Stream) (op : OpId) → Tells P (answer_in (stream_all fs rows versions from stream 0).outs op)
+Tells-stream P [] rows versions from stream op = tt
+Tells-stream P (f ∷ fs) rows versions from stream op =
+    cond_both (is_ours f from stream) (taken (stream_row f rows versions from stream 0) fs) (left_alone f (stream_all fs rows versions from stream 0)) (λ (r : Streamed). Tells P (answer_in r.outs op))
+    (λ _. subst (λ (v : Option Outcome). Tells P v) (sym (answer_in-stream f rows versions from stream 0 op)) tt)
+    (λ _. Tells-stream P fs rows versions from stream op)
+
+Tells-message : (P : Counts → Type 0) (s : NodeState) (from : NodeId) (m : Sent) (op : OpId) → Tells P (answer_in (message_row s from m).outs op)
+Tells-message P s from (message.Stream stream) op = Tells-stream P s.followings s.rows s.versions from stream op
+Tells-message P s from (message.Got got) op = tt
 
 Tells-brought : (P : Counts → Type 0) (s : NodeState) (b : Option Brought) (op : OpId) → Tells P (answer_in (brought_row s b).outs op)
 Tells-brought P s None op = tt
 Tells-brought P s (Some b) op =
     cond_both (is_well_formed s b) (message_row s b.from b.message) (silent s) (λ (step : Stepped). Tells P (answer_in step.outs op))
-    (λ _. Tells-message P s s.following b.from b.message op refl) (λ _. tt)
+    (λ _. Tells-message P s b.from b.message op) (λ _. tt)
 
-Tells-row : (s : NodeState) (input : Input) (b : Option Brought) (op : OpId) → Tells (IsShort s input op) (answer_in (input_row s input b).outs op)
-Tells-row s (Request q key what) b op = Tells-request (IsShort s (Request q key what) op) s.primary s.rows q key what op
-Tells-row s (GiveUp q) b op = Tells-give_up s s.primary q op refl
-Tells-row s (Deliver number) b op = Tells-brought (IsShort s (Deliver number) op) s b op
+-- the counts of what is given up, which are no majorities
+abbrev pub IsShort : NodeState → Input → OpId → Counts → Type 0
+IsShort s input op counts = IsGivenUpBy s input op counts × (are_majorities counts ≡ false)
+
+Tells-row : (s : NodeState) (input : Input) (b : Option Brought) (op : OpId) → ((q : OpId) → waits_over s.executions q ≤ 1) → Tells (IsShort s input op) (answer_in (input_row s input b).outs op)
+Tells-row s (Request q key what) b op once = Tells-request (IsShort s (Request q key what) op) s.setup.hashes s.executions s.rows s.versions q key what op
+Tells-row s (GiveUp q) b op once =
+    Tells-give_up (IsShort s (GiveUp q) op) s.executions q op (once q)
+    (λ counts is same short.
+    let one : q ≡ op = same_op-true q op same in
+    ((one, ap (pending_counts s.executions) (sym one) ∙ is), short))
+Tells-row s (Deliver number) b op once = Tells-brought (IsShort s (Deliver number) op) s b op
 
 -- ---- runs
 
-Tells-step : (s : NodeState) (input : Input) (b : Option Brought) (op : OpId) → Tells (IsShort s input op) (answer_in (node_step s input b).outs op)
-Tells-step s input b op =
+Tells-step : (s : NodeState) (input : Input) (b : Option Brought) (op : OpId) → ((q : OpId) → waits_over s.executions q ≤ 1) → Tells (IsShort s input op) (answer_in (node_step s input b).outs op)
+Tells-step s input b op once =
     let step : Stepped = input_row s input b in
-    Tells-end (IsShort s input op) step step.node.primary op (Tells-row s input b op)
+    Tells-append (IsShort s input op) step.outs (decide_all_outs step.node.executions) op (Tells-row s input b op once) (Tells-all_decided (IsShort s input op) step.node.executions op)
 
 -- an operation whose answer is that it has no majority was given up with these counts, and they are none
 pub no_majority_given_up : (setup : SetupState) (past : List Entry) → IsRun setup past → (op : OpId) (counts : Counts) → answer past op ≡ Some (NoMajority counts)
@@ -138,7 +180,8 @@ no_majority_given_up setup (e ∷ past) h op counts a =
       | None ↦ λ _ k.
           let s : NodeState = state setup e.node.0 past in
           let b : Option Brought = brought past e.input in
+          let once = λ (q : OpId). waits_once setup past h.1 e.node.0 q (ltb-true e.node.0 setup.nodes (node_within setup past e h.0)) in
           let said : answer_in (node_step s e.input b).outs op ≡ Some (NoMajority counts) = ap (λ (l : List Output). answer_in l op) (sym h.0.outputs) ∙ k in
-          let w : IsShort s e.input op counts = subst (λ (v : Option Outcome). Tells (IsShort s e.input op) v) said (Tells-step s e.input b op) in
+          let w : IsShort s e.input op counts = subst (λ (v : Option Outcome). Tells (IsShort s e.input op) v) said (Tells-step s e.input b op once) in
           (inl w.0, w.1)
     ] refl a

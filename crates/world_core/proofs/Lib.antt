@@ -1,10 +1,14 @@
 pub mod Facts
 pub mod GivingUp
+pub mod Nodes
 pub mod Orders
 pub mod Outs
 pub mod Refusals
 pub mod RegisterStory
+pub mod Requesting
 pub mod Runs
+pub mod Setups
+pub mod ShardRoles
 pub mod Single
 pub mod States
 pub mod Steps

@@ -4,6 +4,9 @@ use Rattle.std.proofs.lemmas.Bool.{cond_both, false≢true}
 use Rattle.std.specs.List.{AllByRecursion}
 use Rattle.region_map.specs.declared.id.Id.{Id}
 use Rattle.region_map.specs.declared.id.NodeId.{NodeId}
+use Rattle.region_map.specs.Maps.{Pieced}
+use Rattle.branch_history.specs.declared.version.Version.{Version}
+use Rattle.contract_types.specs.Setup.{SetupState}
 use Rattle.register_laws.specs.declared.operation.OpId.{OpId}
 use Rattle.register_laws.specs.declared.operation.Op.{Op}
 use Rattle.register_laws.specs.declared.operation.Reply.{Reply}
@@ -14,13 +17,13 @@ use Rattle.exec_types.specs.declared.outcome.Outcome.{Outcome}
 use Rattle.exec_types.specs.declared.outcome.Outcome.TheVariants.{Done}
 use Rattle.exec_types.specs.declared.output.Output.{Output}
 use Rattle.exec_types.specs.declared.output.Output.TheVariants.{Message, Dispatched, Answer}
-use Rattle.store_plain.specs.Rows.{Rows}
+use Rattle.store_api.specs.Rows.{Rows}
 use Rattle.write_dispatch.specs.declared.decided.Decided.{Decided}
 use Rattle.write_dispatch.specs.Dispatch.{pending_of, without_op, is_of}
 use Rattle.primary_exec.specs.declared.session.Session.{Session}
 use Rattle.primary_exec.specs.Execution.{Execution, sends, answers, decides, decided_answers, undecided}
 use Rattle.secondary_exec.specs.declared.following.Following.{Following}
-use Rattle.secondary_exec.specs.Stream.{FollowingStep, stream_row, is_ours, take_part, is_next, applied, with_part, acknowledgement, quiet}
+use Rattle.secondary_exec.specs.Stream.{FollowingStep, stream_row, is_ours, take_part, is_next, apply_part, acknowledgement, quiet}
 use Rattle.node_core.specs.declared.journal.Entry.{Entry}
 use Rattle.world_core.specs.Run.{is_requested}
 use Rattle.world_core.specs.Story.{Point, answer_in, or_else, points_in}
@@ -66,30 +69,30 @@ points_in-decided what x (d ∷ ds) =
     (λ _. points_in-answers what x.branch d d.op (decided_answers x ds) (points_in-decided what x ds)) (λ _. refl)
 
 -- what is known of an optional answer of a step
-abbrev pub Answered : List Entry → Entry → OpId → Option Outcome → Type 0
-Answered past e op None = Unit {0}
-Answered past e op (Some outcome) = SaysWell past e op outcome
+abbrev pub Answered : SetupState → List Entry → Entry → OpId → Option Outcome → Type 0
+Answered setup past e op None = Unit {0}
+Answered setup past e op (Some outcome) = SaysWell setup past e op outcome
 
 -- where the second answer is known, and the first is none or known, so is the first of them
-pub Answered-or_else : (past : List Entry) (e : Entry) (op : OpId) (a b : Option Outcome) → Answered past e op a → Answered past e op b → Answered past e op (or_else a b)
-Answered-or_else past e op None b h k = k
-Answered-or_else past e op (Some outcome) b h k = h
+pub Answered-or_else : (setup : SetupState) (past : List Entry) (e : Entry) (op : OpId) (a b : Option Outcome) → Answered setup past e op a → Answered setup past e op b → Answered setup past e op (or_else a b)
+Answered-or_else setup past e op None b h k = k
+Answered-or_else setup past e op (Some outcome) b h k = h
 
-pub Answered-append : (past : List Entry) (e : Entry) (op : OpId) (a b : List Output) → Answered past e op (answer_in a op) → Answered past e op (answer_in b op) → Answered past e op (answer_in (a ++ b) op)
-Answered-append past e op a b h k =
-    subst (λ (v : Option Outcome). Answered past e op v) (sym (answer_in-append a b op)) (Answered-or_else past e op (answer_in a op) (answer_in b op) h k)
+pub Answered-append : (setup : SetupState) (past : List Entry) (e : Entry) (op : OpId) (a b : List Output) → Answered setup past e op (answer_in a op) → Answered setup past e op (answer_in b op) → Answered setup past e op (answer_in (a ++ b) op)
+Answered-append setup past e op a b h k =
+    subst (λ (v : Option Outcome). Answered setup past e op v) (sym (answer_in-append a b op)) (Answered-or_else setup past e op (answer_in a op) (answer_in b op) h k)
 
-Answered-one : (past : List Entry) (e : Entry) (branch : Id) (d : Decided) (q : Option OpId) (rest : List Output) (op : OpId) → Waits (e ∷ past) q d.reply → Answered past e op (answer_in rest op) → Answered past e op (answer_in (answers branch d q ++ rest) op)
-Answered-one past e branch d None rest op w h = h
-Answered-one past e branch d (Some q) rest op w h =
-    cond_both (same_op q op) (Some (Done d.reply branch d.at)) (answer_in rest op) (λ (v : Option Outcome). Answered past e op v)
-    (λ same. subst (λ (v : OpId). Waits (e ∷ past) (Some v) d.reply) (same_op-true q op same) w) (λ _. h)
+Answered-one : (setup : SetupState) (past : List Entry) (e : Entry) (branch : Id) (d : Decided) (q : Option OpId) (rest : List Output) (op : OpId) → Waits setup (e ∷ past) q d.reply → Answered setup past e op (answer_in rest op) → Answered setup past e op (answer_in (answers branch d q ++ rest) op)
+Answered-one setup past e branch d None rest op w h = h
+Answered-one setup past e branch d (Some q) rest op w h =
+    cond_both (same_op q op) (Some (Done d.reply branch d.at)) (answer_in rest op) (λ (v : Option Outcome). Answered setup past e op v)
+    (λ same. subst (λ (v : OpId). Waits setup (e ∷ past) (Some v) d.reply) (same_op-true q op same) w) (λ _. h)
 
-pub Answered-decided : (past : List Entry) (e : Entry) (x : Execution) (ds : List Decided) (op : OpId) → AllByRecursion (WaitsWell (e ∷ past)) ds → Answered past e op (answer_in (decided_answers x ds) op)
-Answered-decided past e x [] op h = tt
-Answered-decided past e x (d ∷ ds) op h =
-    cond_both (decides x d) (answers x.branch d d.op ++ decided_answers x ds) [] (λ (l : List Output). Answered past e op (answer_in l op))
-    (λ _. Answered-one past e x.branch d d.op (decided_answers x ds) op h.0.waits (Answered-decided past e x ds op h.1)) (λ _. tt)
+pub Answered-decided : (setup : SetupState) (past : List Entry) (e : Entry) (x : Execution) (ds : List Decided) (op : OpId) → AllByRecursion (WaitsWell setup (e ∷ past)) ds → Answered setup past e op (answer_in (decided_answers x ds) op)
+Answered-decided setup past e x [] op h = tt
+Answered-decided setup past e x (d ∷ ds) op h =
+    cond_both (decides x d) (answers x.branch d d.op ++ decided_answers x ds) [] (λ (l : List Output). Answered setup past e op (answer_in l op))
+    (λ _. Answered-one setup past e x.branch d d.op (decided_answers x ds) op h.0.waits (Answered-decided setup past e x ds op h.1)) (λ _. tt)
 
 -- ---- what stays pending
 
@@ -105,9 +108,9 @@ pub all_push : (P : Decided → Type 0) (ds : List Decided) (d : Decided) → Al
 all_push P [] d h k = (k, tt)
 all_push P (x ∷ ds) d h k = (h.0, all_push P ds d h.1 k)
 
-waits_requested : (past : List Entry) (op : OpId) (q : Option OpId) (reply : Reply) → Waits past q reply → is_of op q ≡ true → is_requested past op ≡ true
-waits_requested past op None reply w h = absurd (false≢true h)
-waits_requested past op (Some q) reply w h =
+waits_requested : (setup : SetupState) (past : List Entry) (op : OpId) (q : Option OpId) (reply : Reply) → Waits setup past q reply → is_of op q ≡ true → is_requested past op ≡ true
+waits_requested setup past op None reply w h = absurd (false≢true h)
+waits_requested setup past op (Some q) reply w h =
     ap (is_requested past) (sym (same_op-true q op h)) ∙ IsRequested-test past w.0 q w.1 w.2
 
 -- an operation that is pending was requested
@@ -115,20 +118,25 @@ abbrev pub KnownPending : List Entry → OpId → Option Decided → Type 0
 KnownPending past op None = Unit {0}
 KnownPending past op (Some d) = is_requested past op ≡ true
 
-pub pending_requested : (past : List Entry) (op : OpId) (ds : List Decided) → AllByRecursion (WaitsWell past) ds → KnownPending past op (pending_of ds op)
-pending_requested past op [] h = tt
-pending_requested past op (d ∷ ds) h =
+pub pending_requested : (setup : SetupState) (past : List Entry) (op : OpId) (ds : List Decided) → AllByRecursion (WaitsWell setup past) ds → KnownPending past op (pending_of ds op)
+pending_requested setup past op [] h = tt
+pending_requested setup past op (d ∷ ds) h =
     cond_both (is_of op d.op) (Some d) (pending_of ds op) (KnownPending past op)
-    (λ is. waits_requested past op d.op d.reply h.0.waits is) (λ _. pending_requested past op ds h.1)
+    (λ is. waits_requested setup past op d.op d.reply h.0.waits is) (λ _. pending_requested setup past op ds h.1)
 
--- ---- a secondary gives messages alone
+-- ---- what a secondary does with a part
 
-pub answer_in-stream : (f : Following) (rows : Rows) (from : NodeId) (stream : Stream) (view : ℕ) (op : OpId) → answer_in (stream_row f rows from stream view).outs op ≡ None
-answer_in-stream f rows from stream view op =
-    cond_both (is_ours f from stream) (take_part f rows stream view) (quiet f rows) (λ (s : FollowingStep). answer_in s.outs op ≡ None)
-    (λ _.
-    cond_both (nat_le stream.number f.got) (record { following = f; rows = rows; outs = acknowledgement f view ∷ [] })
-    (cond (is_next f stream) (record { following = applied f stream; rows = with_part rows stream.part; outs = acknowledgement (applied f stream) view ∷ [] }) (quiet f rows))
-    (λ (s : FollowingStep). answer_in s.outs op ≡ None) (λ _. refl)
-    (λ _. cond_both (is_next f stream) (record { following = applied f stream; rows = with_part rows stream.part; outs = acknowledgement (applied f stream) view ∷ [] }) (quiet f rows) (λ (s : FollowingStep). answer_in s.outs op ≡ None) (λ _. refl) (λ _. refl)))
-    (λ _. refl)
+-- a part is passed over, acknowledged again, or applied
+pub stream_cases : (P : FollowingStep → Type 0) (f : Following) (rows : Rows) (versions : Pieced Version) (from : NodeId) (stream : Stream) (view : ℕ)
+    → P (quiet f rows versions) → P (record { following = f; rows = rows; versions = versions; outs = acknowledgement f view ∷ [] }) → P (apply_part f rows versions stream view)
+    → P (stream_row f rows versions from stream view)
+stream_cases P f rows versions from stream view passed again new =
+    let old : FollowingStep = record { following = f; rows = rows; versions = versions; outs = acknowledgement f view ∷ [] } in
+    cond_both (is_ours f from stream) (take_part f rows versions stream view) (quiet f rows versions) P
+    (λ _. cond_both (nat_le stream.number f.got) old (cond (is_next f stream) (apply_part f rows versions stream view) (quiet f rows versions)) P (λ _. again)
+    (λ _. cond_both (is_next f stream) (apply_part f rows versions stream view) (quiet f rows versions) P (λ _. new) (λ _. passed)))
+    (λ _. passed)
+
+-- it gives messages alone
+pub answer_in-stream : (f : Following) (rows : Rows) (versions : Pieced Version) (from : NodeId) (stream : Stream) (view : ℕ) (op : OpId) → answer_in (stream_row f rows versions from stream view).outs op ≡ None
+answer_in-stream f rows versions from stream view op = stream_cases (λ step. answer_in step.outs op ≡ None) f rows versions from stream view refl refl refl

@@ -1,29 +1,85 @@
 -- The invariants of every run.
-use Rattle.std.proofs.Common.{◌≡◌, ℕ, ◌==◌, true, false, cond, not, ◌&&◌, nat_lt, List, [], ◌∷◌, Option, Some, None, refl, sym, ap, ◌∙◌, subst}
-use Rattle.std.proofs.lemmas.Bool.{cond_both, and_parts, eqb-true, eqb-false, ne_eqb}
-use Rattle.contract_types.specs.Setup.{SetupState}
+use Rattle.std.proofs.Common.{◌≡◌, ℕ, zero, suc, ◌+◌, ◌≤◌, ◌<◌, ◌==◌, true, false, not, ◌&&◌, nat_lt, nat_le, List, [], ◌∷◌, Option, Some, refl, sym, ap, ◌∙◌, subst, arith}
+use Rattle.std.proofs.lemmas.Bool.{false≢true, cond_both, and_parts, eqb-true}
+use Rattle.std.specs.List.{AllByRecursion}
+use Rattle.region_map.specs.Regions.{in_region}
+use Rattle.region_map.specs.Maps.{Pieced, value_at}
+use Rattle.branch_history.specs.declared.version.Version.{Version}
+use Rattle.contract_types.specs.Setup.{SetupState, IsSetup, is_hashes}
+use Rattle.contract_types.specs.Tilings.{holders}
+use Rattle.store_api.specs.Versions.{point}
+use Rattle.primary_exec.specs.Execution.{Execution}
 use Rattle.node_core.specs.declared.node.Brought.{Brought}
 use Rattle.node_core.specs.declared.journal.Entry.{Entry}
-use Rattle.node_core.specs.Step.{NodeState, setup_execution, node_step, ends_numbers}
+use Rattle.node_core.specs.Parts.{is_for}
+use Rattle.node_core.specs.Step.{NodeState, executions_from, followings_from, begin_node, node_step, ends_numbers}
 use Rattle.world_core.specs.Run.{arrives, is_fresh, brought, state, IsStep, IsRun}
-use Rattle.world_core.specs.Story.{points_of, IsRegisterStory, story}
-use Rattle.world_core.proofs.Told.{after}
-use Rattle.world_core.proofs.Facts.{Adds, WaitsWell-more}
+use Rattle.world_core.specs.Story.{branch_of, IsRegisterStory, story}
+use Rattle.world_core.proofs.Facts.{WaitsWell}
 use Rattle.world_core.proofs.Orders.{AddsAlong}
-use Rattle.world_core.proofs.Steps.{PrimaryStays, SecondaryStep, primary_node, secondary_node, step_entry, path_still, primary_step, secondary_step}
 use Rattle.world_core.proofs.RegisterStory.{register_story}
+use Rattle.world_core.proofs.Setups.{exec_region, following_region, at_one_node, at_two_nodes, one_shard, branches_begin, nothing_begun, begin_hashes, versions_begin}
+use Rattle.world_core.proofs.Nodes.{AllRun, PathsStay, holders-same, all_kept}
+use Rattle.world_core.proofs.Requesting.{stays_same}
+use Rattle.world_core.proofs.Steps.{StateFacts, StepFacts, HoldOne, step_entry, node_facts}
 
--- node 0 is the primary of all keys, and no other node is one
-pub record NodesFacts (setup : SetupState) (past : List Entry) : Type 0 where
-  pub primary : PrimaryStays past (state setup 0 past)
-  pub others : (n : ℕ) → (n == 0) ≡ false → (state setup n past).primary ≡ None
+-- ---- what a table begins with
 
-NodesFacts-nil : (setup : SetupState) → NodesFacts setup []
-NodesFacts-nil setup =
+hashes_some : (h : ℕ) → is_hashes h ≡ true → 0 < h
+hashes_some zero e = absurd (false≢true e)
+hashes_some (suc h) e = omega arith
+
+pub some_hash : (setup : SetupState) → IsSetup setup → 0 < setup.hashes
+some_hash setup ok = hashes_some setup.hashes (and_parts (nat_lt 0 setup.nodes && nat_le setup.nodes 7) (is_hashes setup.hashes) ok.fits).1
+
+begin_runs : (setup : SetupState) (versions : Pieced Version) (xs : List Execution)
+    → ((key : List ℕ) → AllByRecursion (λ x. is_for setup.hashes key x ≡ true → branch_of setup key ≡ Some x.branch) xs)
+    → AllByRecursion (λ x. (x.last ≡ 0) × (x.dispatch.waiting ≡ [])) xs
+    → AllByRecursion (λ x. (h : ℕ) (k : List ℕ) → h < setup.hashes → in_region x.contract.region h k ≡ true → value_at versions.pieces h k ≡ Some (point x.branch 0)) xs
+    → AllRun setup [] [] versions xs
+begin_runs setup versions [] b w v = tt
+begin_runs setup versions (x ∷ xs) b w v = (
+  record {
+    branch = λ key. (b key).0;
+    stands = λ h k lt i. v.0 h k lt i ∙ ap (λ n. Some (point x.branch n)) (sym w.0.0);
+    store = λ key i. refl;
+    waiting = subst (AllByRecursion (WaitsWell setup [])) (sym w.0.1) tt;
+  },
+  begin_runs setup versions xs (λ key. (b key).1) w.1 v.1,
+)
+
+begin_facts : (setup : SetupState) → IsSetup setup → (n : ℕ) → StateFacts setup [] n (begin_node setup n)
+begin_facts setup ok n =
     record {
-      primary = record { execution = setup_execution setup; primary = refl; following = refl; facts = record { branch = refl; store = λ key. refl; waiting = tt } };
-      others = λ n ne. ap (λ c. cond c (Some (setup_execution setup)) None) ne;
+      begun = refl;
+      facts =
+          record {
+            hashes = begin_hashes setup n;
+            regions = refl;
+            followed = refl;
+            runs = begin_runs setup (begin_node setup n).versions (executions_from n 0 setup.shards) (branches_begin setup ok n) (nothing_begun n 0 setup.shards) (versions_begin setup ok n);
+          };
     }
+
+-- ---- one more entry
+
+-- a pair is held once, by one node
+hold_one : (setup : SetupState) → IsSetup setup → (past : List Entry) (n : ℕ) (s : NodeState) → StateFacts setup past n s → HoldOne s.executions s.followings
+hold_one setup ok past n s f h k =
+    let a = holders-same exec_region s.executions (executions_from n 0 setup.shards) h k f.facts.regions in
+    let b = holders-same following_region s.followings (followings_from n 0 setup.shards) h k f.facts.followed in
+    let c = at_one_node n 0 setup.shards h k in
+    let d = one_shard setup ok h k in
+    omega (arith, a, b, c, d)
+
+hold_apart : (setup : SetupState) → IsSetup setup → (past : List Entry) (n m : ℕ) (s t : NodeState) → (n == m) ≡ false → StateFacts setup past n s → StateFacts setup past m t
+    → (h : ℕ) (k : List ℕ) → holders exec_region t.executions h k + holders exec_region s.executions h k ≤ 1
+hold_apart setup ok past n m s t ne f g h k =
+    let a = holders-same exec_region s.executions (executions_from n 0 setup.shards) h k f.facts.regions in
+    let b = holders-same exec_region t.executions (executions_from m 0 setup.shards) h k g.facts.regions in
+    let c = at_two_nodes n m 0 setup.shards h k ne in
+    let d = one_shard setup ok h k in
+    omega (arith, a, b, c, d)
 
 pub step_fresh : (setup : SetupState) (past : List Entry) (e : Entry) → IsStep setup past e → is_fresh past e.input ≡ true
 step_fresh setup past e h =
@@ -34,75 +90,42 @@ step_fresh setup past e h =
 entry_is : (setup : SetupState) (past : List Entry) (e : Entry) → IsStep setup past e → e ≡ step_entry e.node (state setup e.node.0 past) e.input (brought past e.input)
 entry_is setup past e h = λ i. record { node = e.node; input = e.input; outputs = h.outputs i }
 
-facts_still : (past : List Entry) (e : Entry) (s : NodeState) → points_of e.input e.outputs ≡ [] → PrimaryStays past s → PrimaryStays (e ∷ past) s
-facts_still past e s none h =
+entry_facts : (setup : SetupState) → IsSetup setup → (past : List Entry) (e : Entry) → IsStep setup past e → StateFacts setup past e.node.0 (state setup e.node.0 past)
+    → StepFacts setup past e.node.0 (state setup e.node.0 past).executions (node_step (state setup e.node.0 past) e.input (brought past e.input)).node e
+entry_facts setup ok past e h f =
+    let s : NodeState = state setup e.node.0 past in
+    let b : Option Brought = brought past e.input in
+    subst (λ (v : Entry). StepFacts setup past e.node.0 s.executions (node_step s e.input b).node v) (sym (entry_is setup past e h))
+    (node_facts setup past e.node e.node.0 s e.input b (some_hash setup ok) (step_fresh setup past e h) (hold_one setup ok past e.node.0 s f) f)
+
+-- the entry of another node leaves the facts of a node
+other_facts : (setup : SetupState) → IsSetup setup → (past : List Entry) (e : Entry) (n m : ℕ) (s t : NodeState) → (n == m) ≡ false → StateFacts setup past n s → PathsStay setup (holders exec_region s.executions) past e
+    → StateFacts setup past m t → StateFacts setup (e ∷ past) m t
+other_facts setup ok past e n m s t ne f p g =
     record {
-      execution = h.execution;
-      primary = h.primary;
-      following = h.following;
+      begun = g.begun;
       facts =
           record {
-            branch = h.facts.branch;
-            store = λ key. h.facts.store key ∙ ap (after None) (sym (path_still past e none key));
-            waiting = WaitsWell-more past e h.execution.dispatch.waiting h.facts.waiting;
+            hashes = g.facts.hashes;
+            regions = g.facts.regions;
+            followed = g.facts.followed;
+            runs = all_kept setup past e (holders exec_region s.executions) t.rows t.rows t.versions t.versions t.executions
+                (hold_apart setup ok past n m s t ne f g) (stays_same setup.hashes (holders exec_region s.executions) t.rows t.versions) p g.facts.runs;
           };
     }
 
-by_primary : (setup : SetupState) (past : List Entry) (e : Entry) → IsStep setup past e → NodesFacts setup past → (e.node.0 == 0) ≡ true → Adds past e × NodesFacts setup (e ∷ past)
-by_primary setup past e h f is =
-    let zero' : e.node.0 ≡ 0 = eqb-true e.node.0 0 is in
-    let s : NodeState = state setup 0 past in
-    let b : Option Brought = brought past e.input in
-    let shape : s ≡ primary_node s.me s.setup s.rows f.primary.execution =
-    λ i. record { me = s.me; setup = s.setup; rows = s.rows; primary = f.primary.primary i; following = f.primary.following i } in
-    let one = primary_step past e.node s.me s.setup s.rows f.primary.execution e.input b (step_fresh setup past e h) f.primary.facts in
-    let P : NodeState → Type 0 = λ v. Adds past (step_entry e.node v e.input b) × PrimaryStays (step_entry e.node v e.input b ∷ past) (node_step v e.input b).node in
-    let two : P s = subst P (sym shape) one in
-    let same : e ≡ step_entry e.node s e.input b = entry_is setup past e h ∙ ap (λ (n : ℕ). step_entry e.node (state setup n past) e.input b) zero' in
-    let Q : Entry → Type 0 = λ v. Adds past v × PrimaryStays (v ∷ past) (node_step s e.input b).node in
-    let three : Q e = subst Q (sym same) two in
-    let after' : (node_step s e.input b).node ≡ state setup 0 (e ∷ past) = sym (ap (λ c. cond c (node_step s e.input b).node s) is) in (
-      three.0,
-      record {
-        primary = subst (λ (v : NodeState). PrimaryStays (e ∷ past) v) after' three.1;
-        others = λ n ne.
-            let apart : (e.node.0 == n) ≡ false = ne_eqb e.node.0 n (λ q. eqb-false n 0 ne (sym q ∙ zero')) in
-            ap (λ c. (cond c (node_step (state setup n past) e.input b).node (state setup n past)).primary) apart ∙ f.others n ne;
-      },
+pub run_facts : (setup : SetupState) → IsSetup setup → (past : List Entry) → IsRun setup past → AddsAlong setup past × ((n : ℕ) → StateFacts setup past n (state setup n past))
+run_facts setup ok [] h = (tt, begin_facts setup ok)
+run_facts setup ok (e ∷ past) h =
+    let r = run_facts setup ok past h.1 in
+    let s = entry_facts setup ok past e h.0 (r.1 e.node.0) in (
+      (s.adds, r.0),
+      λ n.
+          cond_both (e.node.0 == n) (node_step (state setup n past) e.input (brought past e.input)).node (state setup n past) (StateFacts setup (e ∷ past) n)
+          (λ same. subst (λ (k : ℕ). StateFacts setup (e ∷ past) k (node_step (state setup k past) e.input (brought past e.input)).node) (eqb-true e.node.0 n same) s.own)
+          (λ ne. other_facts setup ok past e e.node.0 n (state setup e.node.0 past) (state setup n past) ne (r.1 e.node.0) s.others (r.1 n)),
     )
-
-by_secondary : (setup : SetupState) (past : List Entry) (e : Entry) → IsStep setup past e → NodesFacts setup past → (e.node.0 == 0) ≡ false → Adds past e × NodesFacts setup (e ∷ past)
-by_secondary setup past e h f ne =
-    let s : NodeState = state setup e.node.0 past in
-    let b : Option Brought = brought past e.input in
-    let shape : s ≡ secondary_node s.me s.setup s.rows s.following =
-    λ i. record { me = s.me; setup = s.setup; rows = s.rows; primary = f.others e.node.0 ne i; following = s.following } in
-    let one = secondary_step past e.node s.me s.setup s.rows s.following e.input b (step_fresh setup past e h) in
-    let P : NodeState → Type 0 = λ v. SecondaryStep past (step_entry e.node v e.input b) (node_step v e.input b).node in
-    let two : P s = subst P (sym shape) one in
-    let Q : Entry → Type 0 = λ v. SecondaryStep past v (node_step s e.input b).node in
-    let three : Q e = subst Q (sym (entry_is setup past e h)) two in
-    let kept : state setup 0 (e ∷ past) ≡ state setup 0 past = ap (λ c. cond c (node_step (state setup 0 past) e.input b).node (state setup 0 past)) ne in (
-      three.adds,
-      record {
-        primary = subst (λ (v : NodeState). PrimaryStays (e ∷ past) v) (sym kept) (facts_still past e (state setup 0 past) three.none f.primary);
-        others = λ n no'.
-            cond_both (e.node.0 == n) (node_step (state setup n past) e.input b).node (state setup n past) (λ (v : NodeState). v.primary ≡ None)
-            (λ same. subst (λ (k : ℕ). (node_step (state setup k past) e.input b).node.primary ≡ None) (eqb-true e.node.0 n same) three.primary) (λ _. f.others n no');
-      },
-    )
-
-pub run_facts : (setup : SetupState) (past : List Entry) → IsRun setup past → AddsAlong past × NodesFacts setup past
-run_facts setup [] h = (tt, NodesFacts-nil setup)
-run_facts setup (e ∷ past) h =
-    let r = run_facts setup past h.1 in
-    let goal : Adds past e × NodesFacts setup (e ∷ past) =
-    elim (e.node.0 == 0) as (λ c. (e.node.0 == 0) ≡ c → Adds past e × NodesFacts setup (e ∷ past)) [
-      | true ↦ λ is. by_primary setup past e h.0 r.1 is
-      | false ↦ λ ne. by_secondary setup past e h.0 r.1 ne
-    ] refl in
-    ((goal.0, r.0), goal.1)
 
 -- in every run each key's story is a register story
-pub run_story : (setup : SetupState) (past : List Entry) → IsRun setup past → (key : List ℕ) → IsRegisterStory past key (story past key)
-run_story setup past h key = register_story past (run_facts setup past h).0 key
+pub run_story : (setup : SetupState) → IsSetup setup → (past : List Entry) → IsRun setup past → (key : List ℕ) → IsRegisterStory setup past key (story setup past key)
+run_story setup ok past h key = register_story setup past (run_facts setup ok past h).0 key

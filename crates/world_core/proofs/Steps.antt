@@ -1,192 +1,143 @@
--- What one step of a node adds to the history, and the invariants of the nodes.
-use Rattle.std.proofs.Common.{◌≡◌, ℕ, ◌+◌, ◌≤◌, ◌==◌, Bool, true, false, cond, ◌&&◌, List, [], ◌∷◌, ◌++◌, map, filter, Option, Some, None, refl, sym, ap, ap₂, ◌∙◌, subst, inl, inr, arith, append-nil, nat_lt}
-use Rattle.std.proofs.lemmas.Bool.{false≢true, cond_both, or_right, and_from, eq-eqb}
+-- What one step of a node adds to the history, and the facts of the node after it.
+use Rattle.std.proofs.Common.{◌≡◌, ℕ, ◌+◌, ◌≤◌, ◌<◌, Bool, true, false, cond, List, [], ◌∷◌, ◌++◌, map, filter, nat_lt, Option, Some, None, refl, sym, ap, ◌∙◌, subst, inl, inr, arith, append-nil}
+use Rattle.std.proofs.lemmas.Bool.{cond_both, or_right}
 use Rattle.std.specs.List.{AllByRecursion}
-use Rattle.std.specs.Cmp.Lexicographic.{nat_list_eq_equiv}
-use Rattle.region_map.specs.declared.id.Id.{Id}
 use Rattle.region_map.specs.declared.id.NodeId.{NodeId}
+use Rattle.region_map.specs.Regions.{in_region}
+use Rattle.region_map.specs.Maps.{Pieced}
+use Rattle.branch_history.specs.declared.version.Version.{Version}
 use Rattle.register_laws.specs.declared.operation.OpId.{OpId}
 use Rattle.register_laws.specs.declared.operation.Op.{Op}
-use Rattle.register_laws.specs.declared.operation.Op.TheVariants.{Put, Delete, Cas, Read}
-use Rattle.register_laws.specs.Register.{State, reply_of, state_after, writes}
 use Rattle.register_laws.specs.Lists.{same_op}
 use Rattle.contract_types.specs.Setup.{SetupState}
+use Rattle.contract_types.specs.Tilings.{holders}
 use Rattle.contract_types.specs.declared.contract.Contract.{Contract}
-use Rattle.exec_types.specs.Sessions.{same_id}
+use Rattle.exec_types.specs.Parts.{timestamp_of}
 use Rattle.exec_types.specs.declared.message.Message.{Message as Sent}
 use Rattle.exec_types.specs.declared.message.Message.TheVariants as message
 use Rattle.exec_types.specs.declared.message.Got.{Got}
-use Rattle.exec_types.specs.declared.message.Part.{Part}
-use Rattle.exec_types.specs.declared.message.Part.TheVariants.{Write, Sync}
-use Rattle.store_api.specs.declared.Row.{Row}
+use Rattle.exec_types.specs.declared.message.Stream.{Stream}
 use Rattle.exec_types.specs.declared.input.Input.{Input}
 use Rattle.exec_types.specs.declared.input.Input.TheVariants.{Request, GiveUp, Deliver}
 use Rattle.exec_types.specs.declared.outcome.Outcome.{Outcome}
-use Rattle.exec_types.specs.declared.outcome.Outcome.TheVariants.{NotServing, NoMajority}
+use Rattle.exec_types.specs.declared.outcome.Outcome.TheVariants.{NoMajority}
 use Rattle.exec_types.specs.declared.output.Output.{Output}
-use Rattle.exec_types.specs.declared.output.Output.TheVariants.{Dispatched, Answer}
-use Rattle.store_plain.specs.Rows.{Rows, value_in, value_of}
-use Rattle.store_plain.proofs.RowLemmas.{row_of-with_row_same, row_of-with_row_other}
+use Rattle.exec_types.specs.declared.output.Output.TheVariants.{Answer}
+use Rattle.store_api.specs.Rows.{Rows}
+use Rattle.store_api.proofs.VersionMaps.{advanced_map_hashes}
 use Rattle.write_dispatch.specs.declared.decided.Decided.{Decided}
 use Rattle.write_dispatch.specs.Dispatch.{DispatchState, Acks, is_decided, pending_of, without_op, counts_of}
 use Rattle.primary_exec.specs.declared.session.Session.{Session}
-use Rattle.primary_exec.specs.Execution.{Execution, PrimaryStep, has_room, sends, part_of, with_written, rows_after, dispatch_row, is_live, with_stands, with_acked, got_row, decided, decide_outs, given_up, give_up_outs, without_given_up, give_up_row}
+use Rattle.primary_exec.specs.Execution.{Execution, is_live, with_stands, with_acked, got_row, decided, decide_outs, given_up, give_up_outs, without_given_up, give_up_row}
 use Rattle.secondary_exec.specs.declared.following.Following.{Following}
+use Rattle.secondary_exec.specs.Stream.{FollowingStep, stream_row, is_ours}
 use Rattle.node_core.specs.declared.node.Brought.{Brought}
 use Rattle.node_core.specs.declared.journal.Entry.{Entry}
-use Rattle.node_core.specs.Step.{NodeState, first_id, node_step, Stepped, silent, message_row, end_step}
+use Rattle.node_core.specs.Parts.{Requested, Streamed, request_all, taken, left_alone, stream_all, got_all, give_up_all, give_up_all_outs, decide_all_outs}
+use Rattle.node_core.specs.Step.{NodeState, Stepped, silent, with_requested, request_row, give_up, message_row, brought_row, end_step, node_step}
 use Rattle.world_core.specs.Run.{requests, is_requested, is_fresh}
-use Rattle.world_core.specs.Story.{Point, IsIn, answer_in, or_else, points_in, points_of, same_key, is_on_path, path}
-use Rattle.world_core.proofs.Told.{after, after-append, point_times, TookEffect, TookEffect-last}
-use Rattle.world_core.proofs.Facts.{same_op-true, WaitsWell, WaitsWell-more, path-cons, Adds}
-use Rattle.world_core.proofs.Outs.{points_in-append, points_in-sends, answer_in-append, answer_in-sends, points_in-decided, Answered, Answered-append, Answered-decided, undecided_keeps, without_op_keeps, all_push, KnownPending, pending_requested, answer_in-stream}
-use Rattle.world_core.proofs.RegisterStory.{same_key-true}
+use Rattle.world_core.specs.Story.{Point, IsIn, answer_in, points_in, points_of, is_on_path, path}
+use Rattle.world_core.proofs.Told.{point_times}
+use Rattle.world_core.proofs.Facts.{same_op-true, WaitsWell, path-cons, Adds}
+use Rattle.world_core.proofs.Outs.{points_in-append, points_in-decided, Answered, Answered-append, Answered-decided, undecided_keeps, without_op_keeps, KnownPending, pending_requested, stream_cases}
+use Rattle.world_core.proofs.Setups.{exec_region, following_region}
+use Rattle.world_core.proofs.Nodes.{ExecutionFacts, AllRun, NodeFacts, StoreStays, PathsStay, holders-rest, kept, all_kept}
+use Rattle.world_core.proofs.Requesting.{point_at, RequestPoints, request_points, request_entry, request_answers, request_regions, request_hashes, request_paths, request_runs, region_stays, stays_weaker, stays_same}
 
--- ---- the primary's own rows are the values of the paths
+-- ---- lists of executions
 
--- an execution writes the first branch, its node's rows are the values of the paths, and what is pending waits well
-pub record PrimaryFacts (past : List Entry) (x : Execution) (rows : Rows) : Type 0 where
-  pub branch : x.branch ≡ first_id 0
-  pub store : (key : List ℕ) → value_of rows key ≡ after None (path past key)
-  pub waiting : AllByRecursion (WaitsWell past) x.dispatch.waiting
+all_map : (P Q : Execution → Type 0) (f : Execution → Execution) → ((x : Execution) → P x → Q (f x)) → (xs : List Execution) → AllByRecursion P xs → AllByRecursion Q (map f xs)
+all_map P Q f step [] h = tt
+all_map P Q f step (x ∷ xs) h = (step x h.0, all_map P Q f step xs h.1)
 
-keeps_state : (s : State) (w : Op) → writes s w ≡ false → state_after s w ≡ s
-keeps_state s (Put v) e = absurd (false≢true (sym e))
-keeps_state s Delete e = absurd (false≢true (sym e))
-keeps_state s (Cas expect put) e = ap (λ b. cond b put s) e
-keeps_state s Read e = refl
+-- what changes no contract keeps the regions
+regions_map : (f : Execution → Execution) → ((x : Execution) → exec_region (f x) ≡ exec_region x) → (xs : List Execution) → map exec_region (map f xs) ≡ map exec_region xs
+regions_map f same [] = refl
+regions_map f same (x ∷ xs) = λ i. same x i ∷ regions_map f same xs i
 
--- the value of the key after an operation on it, and of any other key
-value_of-rows_after_same : (rows : Rows) (at : ℕ) (key : List ℕ) (what : Op) → value_of (rows_after rows (value_of rows key) at key what) key ≡ state_after (value_of rows key) what
-value_of-rows_after_same rows at key what =
-    let before : State = value_of rows key in
-    let row : Row = record { value = state_after before what; recency = at } in
-    cond_both (writes before what) (Write at key row) (Sync at) (λ (p : Part). value_of (with_written rows p) key ≡ state_after before what)
-    (λ _. ap value_in (row_of-with_row_same rows key row))
-    (λ e. sym (keeps_state before what e))
+-- the facts of an execution whose pending operations and sessions changed
+changed : (setup : SetupState) (past : List Entry) (rows : Rows) (versions : Pieced Version) (x : Execution) (d : DispatchState) (sessions : List Session) → ExecutionFacts setup past rows versions x
+    → AllByRecursion (WaitsWell setup past) d.waiting → ExecutionFacts setup past rows versions (record x { dispatch = d; sessions = sessions })
+changed setup past rows versions x d sessions f w = record { branch = f.branch; stands = f.stands; store = f.store; waiting = w }
 
-value_of-rows_after_other : (rows : Rows) (at : ℕ) (key other : List ℕ) (what : Op) → same_key other key ≡ false → value_of (rows_after rows (value_of rows key) at key what) other ≡ value_of rows other
-value_of-rows_after_other rows at key other what ne =
-    let before : State = value_of rows key in
-    let row : Row = record { value = state_after before what; recency = at } in
-    cond_both (writes before what) (Write at key row) (Sync at) (λ (p : Part). value_of (with_written rows p) other ≡ value_of rows other)
-    (λ _. ap value_in (row_of-with_row_other rows key other row ne))
-    (λ _. refl)
+-- ---- the end of a step: what is decided is answered
 
-same_key_sym : (a b : List ℕ) → same_key a b ≡ false → same_key b a ≡ false
-same_key_sym a b e = nat_list_eq_equiv.symm b a ∙ e
+points_in-decide_all : (what : Op) (xs : List Execution) → points_in what (decide_all_outs xs) ≡ []
+points_in-decide_all what [] = refl
+points_in-decide_all what (x ∷ xs) =
+    points_in-append what (decide_outs x) (decide_all_outs xs) ∙ ap (λ (l : List Point). l ++ points_in what (decide_all_outs xs)) (points_in-decided what x x.dispatch.waiting) ∙ points_in-decide_all what xs
 
-same_id-refl : (i : Id) → same_id i i ≡ true
-same_id-refl i = and_from ((i.node.0 == i.node.0) && (i.life == i.life)) (i.counter == i.counter) (and_from (i.node.0 == i.node.0) (i.life == i.life) (eq-eqb i.node.0 i.node.0 refl) (eq-eqb i.life i.life refl)) (eq-eqb i.counter i.counter refl)
+pub points_in-end : (what : Op) (outs : List Output) (xs : List Execution) → points_in what (outs ++ decide_all_outs xs) ≡ points_in what outs
+points_in-end what outs xs =
+    points_in-append what outs (decide_all_outs xs) ∙ ap (λ (l : List Point). points_in what outs ++ l) (points_in-decide_all what xs) ∙ append-nil (points_in what outs)
 
-same_key-self : (key : List ℕ) → same_key key key ≡ true
-same_key-self key = nat_list_eq_equiv.refl key
+Answered-decide_all : (setup : SetupState) (past : List Entry) (e : Entry) (rows : Rows) (versions : Pieced Version) (xs : List Execution) → AllRun setup (e ∷ past) rows versions xs
+    → (q : OpId) → Answered setup past e q (answer_in (decide_all_outs xs) q)
+Answered-decide_all setup past e rows versions [] f q = tt
+Answered-decide_all setup past e rows versions (x ∷ xs) f q =
+    Answered-append setup past e q (decide_outs x) (decide_all_outs xs) (Answered-decided setup past e x x.dispatch.waiting q f.0.waiting) (Answered-decide_all setup past e rows versions xs f.1 q)
 
--- ---- what a step without a point adds
+decided_facts : (setup : SetupState) (past : List Entry) (rows : Rows) (versions : Pieced Version) (x : Execution) → ExecutionFacts setup past rows versions x → ExecutionFacts setup past rows versions (decided x)
+decided_facts setup past rows versions x f =
+    changed setup past rows versions x (decided x).dispatch x.sessions f (undecided_keeps (WaitsWell setup past) x x.dispatch.waiting f.waiting)
 
-module _ (past : List Entry) (e : Entry) where
-  -- the path of a key, where the entry has no point
-  pub path_still : points_of e.input e.outputs ≡ [] → (key : List ℕ) → path (e ∷ past) key ≡ path past key
-  path_still none key = path-cons past e key ∙ ap (λ (l : List Point). path past key ++ filter (is_on_path key) l) none ∙ append-nil (path past key)
+-- ---- the facts of a node in a state
 
-  -- an entry without a point whose answers are known
-  pub still_adds : is_fresh past e.input ≡ true → points_of e.input e.outputs ≡ [] → ((op : OpId) → Answered past e op (answer_in e.outputs op)) → Adds past e
+pub record StateFacts (setup : SetupState) (past : List Entry) (n : ℕ) (s : NodeState) : Type 0 where
+  pub begun : s.setup ≡ setup
+  pub facts : NodeFacts setup past n s.rows s.versions s.executions s.followings
+
+-- what is known of a node before the end of its step, in the history with the step's entry
+record Middle (setup : SetupState) (past : List Entry) (e : Entry) (n : ℕ) (step : Stepped) : Type 0 where
+  state : StateFacts setup (e ∷ past) n step.node
+  answers : (q : OpId) → Answered setup past e q (answer_in step.outs q)
+
+end_state : (setup : SetupState) (past : List Entry) (n : ℕ) (step : Stepped) → StateFacts setup past n step.node → StateFacts setup past n (end_step step).node
+end_state setup past n step f =
+    record {
+      begun = f.begun;
+      facts =
+          record {
+            hashes = f.facts.hashes;
+            regions = regions_map decided (λ x. refl) step.node.executions ∙ f.facts.regions;
+            followed = f.facts.followed;
+            runs = all_map (ExecutionFacts setup past step.node.rows step.node.versions) (ExecutionFacts setup past step.node.rows step.node.versions) decided
+                (decided_facts setup past step.node.rows step.node.versions) step.node.executions f.facts.runs;
+          };
+    }
+
+end_answers : (setup : SetupState) (past : List Entry) (e : Entry) (n : ℕ) (step : Stepped) → Middle setup past e n step → (q : OpId) → Answered setup past e q (answer_in (end_step step).outs q)
+end_answers setup past e n step m q =
+    Answered-append setup past e q step.outs (decide_all_outs step.node.executions) (m.answers q)
+    (Answered-decide_all setup past e step.node.rows step.node.versions step.node.executions m.state.facts.runs q)
+
+-- ---- entries without a point
+
+module _ (setup : SetupState) (past : List Entry) (e : Entry) where
+  path_still : points_of e.input e.outputs ≡ [] → (key : List ℕ) → path setup (e ∷ past) key ≡ path setup past key
+  path_still none key = path-cons setup past e key ∙ ap (λ (l : List Point). path setup past key ++ filter (is_on_path setup key) l) none ∙ append-nil (path setup past key)
+
+  paths_still : (count : ℕ → List ℕ → ℕ) → points_of e.input e.outputs ≡ [] → PathsStay setup count past e
+  paths_still count none = record { stays = λ key _. path_still none key }
+
+  still_adds : is_fresh past e.input ≡ true → points_of e.input e.outputs ≡ [] → ((q : OpId) → Answered setup past e q (answer_in e.outputs q)) → Adds setup past e
   still_adds fresh none known =
       record {
         fresh = fresh;
         new = λ p i. absurd (subst (λ (l : List Point). IsIn l p) none i);
         few = λ op. subst (λ (l : List Point). point_times l op ≤ 1) (sym none) (omega arith);
-        says = λ op outcome is. record { says = subst (λ (v : Option Outcome). Answered past e op v) is (known op) };
+        says = λ op outcome is. record { says = subst (λ (v : Option Outcome). Answered setup past e op v) is (known op) };
       }
 
-  -- the facts of an execution whose rows and branch stay, and whose pending operations were pending before
-  pub still_facts : (x y : Execution) (rows : Rows) → points_of e.input e.outputs ≡ [] → PrimaryFacts past x rows → y.branch ≡ x.branch → AllByRecursion (WaitsWell past) y.dispatch.waiting → PrimaryFacts (e ∷ past) (decided y) rows
-  still_facts x y rows none f b w =
-      record {
-        branch = b ∙ f.branch;
-        store = λ key. f.store key ∙ ap (after None) (sym (path_still none key));
-        waiting = undecided_keeps (WaitsWell (e ∷ past)) y y.dispatch.waiting (WaitsWell-more past e y.dispatch.waiting w);
-      }
+  -- the facts of executions at a node whose store stays
+  still_runs : (rows : Rows) (versions : Pieced Version) (xs : List Execution) → points_of e.input e.outputs ≡ [] → AllRun setup past rows versions xs → AllRun setup (e ∷ past) rows versions xs
+  still_runs rows versions [] none f = tt
+  still_runs rows versions (x ∷ xs) none f = (
+    kept setup past e (λ h k. 0) rows rows versions versions x (λ h k i. refl) (stays_same setup.hashes (λ h k. 0) rows versions) (paths_still (λ h k. 0) none) f.0,
+    still_runs rows versions xs none f.1,
+  )
 
--- ---- the steps of the primary
-
--- a node that has the execution, and its facts
-pub record PrimaryStays (past : List Entry) (s : NodeState) : Type 0 where
-  pub execution : Execution
-  pub primary : s.primary ≡ Some execution
-  pub following : s.following ≡ None
-  pub facts : PrimaryFacts past execution s.rows
-
--- a node with this execution and no following
-abbrev pub primary_node : NodeId → SetupState → Rows → Execution → NodeState
-primary_node me setup rows x = record { me = me; setup = setup; rows = rows; primary = Some x; following = None }
-
--- the entry of a step
-abbrev pub step_entry : NodeId → NodeState → Input → Option Brought → Entry
-step_entry node s input b = record { node = node; input = input; outputs = (node_step s input b).outs }
-
-branch_test : (x : Execution) → x.branch ≡ first_id 0 → same_id x.branch (first_id 0) ≡ true
-branch_test x e = ap (λ (i : Id). same_id i (first_id 0)) e ∙ same_id-refl (first_id 0)
-
-primary_request : (past : List Entry) (node me : NodeId) (setup : SetupState) (rows : Rows) (x : Execution) (op : OpId) (key : List ℕ) (what : Op) (b : Option Brought) → is_fresh past (Request op key what) ≡ true → PrimaryFacts past x rows
-    → Adds past (step_entry node (primary_node me setup rows x) (Request op key what) b)
-    × PrimaryStays (step_entry node (primary_node me setup rows x) (Request op key what) b ∷ past) (node_step (primary_node me setup rows x) (Request op key what) b).node
-primary_request past node me setup rows x op key what b fresh f =
-    let e : Entry = step_entry node (primary_node me setup rows x) (Request op key what) b in
-    let before : State = value_of rows key in
-    let row : PrimaryStep = dispatch_row x rows op key what in
-    let x1 : Execution = row.execution in
-    let point : Point = record { op = op; what = what; key = key; branch = x.branch; timestamp = x.last + 1 } in
-    let part : Part = part_of before (x.last + 1) key what in
-    let sessions : List Session = filter has_room x.sessions in
-    let sent : List Output = map (sends part) sessions in
-    let dispatched : Output = Dispatched op key x.branch (x.last + 1) in
-    let tail : List Output = decide_outs x1 in
-    let one : points_in what (sent ++ dispatched ∷ []) ≡ point ∷ [] =
-    points_in-append what sent (dispatched ∷ []) ∙ ap (λ (l : List Point). l ++ point ∷ []) (points_in-sends what part sessions) in
-    let pts : points_of e.input e.outputs ≡ point ∷ [] =
-    points_in-append what (sent ++ dispatched ∷ []) tail ∙ ap₂ (λ (a c : List Point). a ++ c) one (points_in-decided what x1 x1.dispatch.waiting) in
-    let bt : same_id x.branch (first_id 0) ≡ true = branch_test x f.branch in
-    let way = λ (k : List ℕ). path-cons past e k ∙ ap (λ (l : List Point). path past k ++ filter (is_on_path k) l) pts in
-    let store = λ (k : List ℕ).
-    let value : after None (path (e ∷ past) k) ≡ after (value_of rows k) (filter (is_on_path k) (point ∷ [])) =
-    ap (after None) (way k) ∙ after-append None (path past k) (filter (is_on_path k) (point ∷ [])) ∙ ap (λ (s : State). after s (filter (is_on_path k) (point ∷ []))) (sym (f.store k)) in
-    let here : value_of row.rows k ≡ after (value_of rows k) (filter (is_on_path k) (point ∷ [])) =
-    elim (same_key key k) as (λ c. same_key key k ≡ c → value_of row.rows k ≡ after (value_of rows k) (cond (c && same_id x.branch (first_id 0)) (point ∷ []) [])) [
-      | true ↦ λ is.
-          subst (λ (v : List ℕ). value_of row.rows v ≡ after (value_of rows v) (cond (same_id x.branch (first_id 0)) (point ∷ []) [])) (same_key-true key k is)
-          (value_of-rows_after_same rows (x.last + 1) key what ∙ sym (ap (λ c. after before (cond c (point ∷ []) [])) bt))
-      | false ↦ λ ne. value_of-rows_after_other rows (x.last + 1) key k what (same_key_sym key k ne)
-    ] refl in
-    here ∙ sym value in
-    let d : Decided = record { op = Some op; at = x.last + 1; reply = reply_of before what } in
-    let way_here : path (e ∷ past) key ≡ path past key ++ point ∷ [] =
-    way key ∙ ap₂ (λ (a c : Bool). path past key ++ cond (a && c) (point ∷ []) []) (same_key-self key) bt in
-    let took_here : TookEffect (path past key ++ point ∷ []) op what (reply_of before what) =
-    subst (λ (s : State). TookEffect (path past key ++ point ∷ []) op what (reply_of s what)) (sym (f.store key)) (TookEffect-last (path past key) point) in
-    let took : TookEffect (path (e ∷ past) key) op what (reply_of before what) = subst (λ (l : List Point). TookEffect l op what (reply_of before what)) (sym way_here) took_here in
-    let own : WaitsWell (e ∷ past) d = record { waits = (key, what, inl (refl, refl, refl), took) } in
-    let all : AllByRecursion (WaitsWell (e ∷ past)) x1.dispatch.waiting = all_push (WaitsWell (e ∷ past)) x.dispatch.waiting d (WaitsWell-more past e x.dispatch.waiting f.waiting) own in
-    let none = λ (q : OpId). answer_in-append sent (dispatched ∷ []) q ∙ ap (λ (v : Option Outcome). or_else v None) (answer_in-sends part sessions q) in
-    let known = λ (q : OpId).
-    Answered-append past e q (sent ++ dispatched ∷ []) tail (subst (λ (v : Option Outcome). Answered past e q v) (sym (none q)) tt) (Answered-decided past e x1 x1.dispatch.waiting q all) in (
-      record {
-        fresh = fresh;
-        new = λ p i. elim (subst (λ (l : List Point). IsIn l p) pts i) [ inl is ↦ (ap (λ (v : Point). v.op) is, ap (λ (v : Point). v.key) is, ap (λ (v : Point). v.what) is) | inr h ↦ absurd h ];
-        few = λ q. subst (λ (l : List Point). point_times l q ≤ 1) (sym pts) (at_most_one (same_op op q));
-        says = λ q outcome is. record { says = subst (λ (v : Option Outcome). Answered past e q v) is (known q) };
-      },
-      record {
-        execution = decided x1;
-        primary = refl;
-        following = refl;
-        facts = record { branch = f.branch; store = store; waiting = undecided_keeps (WaitsWell (e ∷ past)) x1 x1.dispatch.waiting all };
-      },
-    )
-  where
-    at_most_one : (c : Bool) → cond c 1 0 + 0 ≤ 1
-    at_most_one true = omega arith
-    at_most_one false = omega arith
+-- ---- giving up
 
 -- giving up takes out one pending operation at most
 given_up_waiting : (P : Decided → Type 0) (p : DispatchState) (c : Contract) (me : ℕ) (op : OpId) (d : Option Decided) → AllByRecursion P p.waiting → AllByRecursion P (without_given_up p c me op d).waiting
@@ -194,134 +145,244 @@ given_up_waiting P p c me op None h = h
 given_up_waiting P p c me op (Some d) h =
     cond_both (is_decided p.acks c me d.at) p (record p { waiting = without_op p.waiting op }) (λ (y : DispatchState). AllByRecursion P y.waiting) (λ _. h) (λ _. without_op_keeps P op p.waiting h)
 
-given_up_answered : (past : List Entry) (e : Entry) (acks : Acks) (c : Contract) (me : ℕ) (op : OpId) (d : Option Decided) → KnownPending past op d → (q : OpId) → Answered past e q (answer_in (given_up acks c me op d) q)
-given_up_answered past e acks c me op None h q = tt
-given_up_answered past e acks c me op (Some d) h q =
-    cond_both (is_decided acks c me d.at) [] (Answer op (NoMajority (counts_of acks c me d.at)) ∷ []) (λ (l : List Output). Answered past e q (answer_in l q)) (λ _. tt)
-    (λ _. cond_both (same_op op q) (Some (NoMajority (counts_of acks c me d.at))) None (λ (v : Option Outcome). Answered past e q v)
+given_up_facts : (setup : SetupState) (past : List Entry) (rows : Rows) (versions : Pieced Version) (op : OpId) (x : Execution) → ExecutionFacts setup past rows versions x → ExecutionFacts setup past rows versions (give_up_row x op)
+given_up_facts setup past rows versions op x f =
+    changed setup past rows versions x (give_up_row x op).dispatch x.sessions f (given_up_waiting (WaitsWell setup past) x.dispatch x.contract x.me.0 op (pending_of x.dispatch.waiting op) f.waiting)
+
+given_up_answered : (setup : SetupState) (past : List Entry) (e : Entry) (acks : Acks) (c : Contract) (me : ℕ) (op : OpId) (d : Option Decided) → KnownPending past op d → (q : OpId) → Answered setup past e q (answer_in (given_up acks c me op d) q)
+given_up_answered setup past e acks c me op None h q = tt
+given_up_answered setup past e acks c me op (Some d) h q =
+    cond_both (is_decided acks c me d.at) [] (Answer op (NoMajority (counts_of acks c me d.at)) ∷ []) (λ (l : List Output). Answered setup past e q (answer_in l q)) (λ _. tt)
+    (λ _. cond_both (same_op op q) (Some (NoMajority (counts_of acks c me d.at))) None (λ (v : Option Outcome). Answered setup past e q v)
     (λ same. or_right (requests e.input q) (is_requested past q) (ap (is_requested past) (sym (same_op-true op q same)) ∙ h)) (λ _. tt))
 
-primary_give_up : (past : List Entry) (node me : NodeId) (setup : SetupState) (rows : Rows) (x : Execution) (op : OpId) (b : Option Brought) → PrimaryFacts past x rows
-    → Adds past (step_entry node (primary_node me setup rows x) (GiveUp op) b)
-    × PrimaryStays (step_entry node (primary_node me setup rows x) (GiveUp op) b ∷ past) (node_step (primary_node me setup rows x) (GiveUp op) b).node
-primary_give_up past node me setup rows x op b f =
-    let e : Entry = step_entry node (primary_node me setup rows x) (GiveUp op) b in
-    let d : Option Decided = pending_of x.dispatch.waiting op in
-    let x1 : Execution = give_up_row x op in
-    let w = given_up_waiting (WaitsWell past) x.dispatch x.contract x.me.0 op d f.waiting in
-    let all = WaitsWell-more past e x1.dispatch.waiting w in
-    let known = λ (q : OpId).
-    Answered-append past e q (give_up_outs x op) (decide_outs x1) (given_up_answered past e x.dispatch.acks x.contract x.me.0 op d (pending_requested past op x.dispatch.waiting f.waiting) q) (Answered-decided past e x1 x1.dispatch.waiting q all) in
-    (still_adds past e refl refl known, record { execution = decided x1; primary = refl; following = refl; facts = still_facts past e x x1 rows refl f refl w })
+given_up_all_answered : (setup : SetupState) (past : List Entry) (e : Entry) (rows : Rows) (versions : Pieced Version) (op : OpId) (xs : List Execution) → AllRun setup past rows versions xs
+    → (q : OpId) → Answered setup past e q (answer_in (give_up_all_outs xs op) q)
+given_up_all_answered setup past e rows versions op [] f q = tt
+given_up_all_answered setup past e rows versions op (x ∷ xs) f q =
+    Answered-append setup past e q (give_up_outs x op) (give_up_all_outs xs op)
+    (given_up_answered setup past e x.dispatch.acks x.contract x.me.0 op (pending_of x.dispatch.waiting op) (pending_requested setup past op x.dispatch.waiting f.0.waiting) q)
+    (given_up_all_answered setup past e rows versions op xs f.1 q)
 
--- a message changes no pending operation and no row of the primary
-primary_message : (past : List Entry) (e : Entry) (x y : Execution) (rows : Rows) → is_fresh past e.input ≡ true → points_of e.input e.outputs ≡ [] → e.outputs ≡ decide_outs y → PrimaryFacts past x rows → y.branch ≡ x.branch → y.dispatch.waiting ≡ x.dispatch.waiting
-    → Adds past e × PrimaryFacts (e ∷ past) (decided y) rows
-primary_message past e x y rows fresh none outs f branch waiting =
-    let w : AllByRecursion (WaitsWell past) y.dispatch.waiting = subst (AllByRecursion (WaitsWell past)) (sym waiting) f.waiting in
-    let all = WaitsWell-more past e y.dispatch.waiting w in
-    let known = λ (q : OpId). subst (λ (l : List Output). Answered past e q (answer_in l q)) (sym outs) (Answered-decided past e y y.dispatch.waiting q all) in
-    (still_adds past e fresh none known, still_facts past e x y rows none f branch w)
+give_up_middle : (setup : SetupState) (past : List Entry) (node : NodeId) (outs : List Output) (n : ℕ) (s : NodeState) (op : OpId) → StateFacts setup past n s
+    → Middle setup past (record { node = node; input = GiveUp op; outputs = outs }) n (give_up s op)
+give_up_middle setup past node outs n s op f =
+    let e : Entry = record { node = node; input = GiveUp op; outputs = outs } in
+    let facts = ExecutionFacts setup past s.rows s.versions in
+    record {
+      state =
+          record {
+            begun = f.begun;
+            facts =
+                record {
+                  hashes = f.facts.hashes;
+                  regions = regions_map (λ x. give_up_row x op) (λ x. refl) s.executions ∙ f.facts.regions;
+                  followed = f.facts.followed;
+                  runs = still_runs setup past e s.rows s.versions (give_up_all s.executions op) refl
+                      (all_map facts facts (λ x. give_up_row x op) (given_up_facts setup past s.rows s.versions op) s.executions f.facts.runs);
+                };
+          };
+      answers = given_up_all_answered setup past e s.rows s.versions op s.executions f.facts.runs;
+    }
 
-got_row-branch : (x : Execution) (from : NodeId) (got : Got) → (got_row x from got).branch ≡ x.branch
-got_row-branch x from got =
-    cond_both (is_live x from got.session) (record x { sessions = map (with_acked from got.session got.upto) x.sessions; dispatch = with_stands x.dispatch from got got.stands }) x
-    (λ (y : Execution). y.branch ≡ x.branch) (λ _. refl) (λ _. refl)
+-- ---- messages
 
 with_stands-waiting : (d : DispatchState) (from : NodeId) (got : Got) (stands : Option ℕ) → (with_stands d from got stands).waiting ≡ d.waiting
 with_stands-waiting d from got None = refl
 with_stands-waiting d from got (Some at) = refl
 
+got_cases : (P : Execution → Type 0) (x : Execution) (from : NodeId) (got : Got) → P (record x { sessions = map (with_acked from got.session got.upto) x.sessions; dispatch = with_stands x.dispatch from got got.stands }) → P x
+    → P (got_row x from got)
+got_cases P x from got taken' quiet' =
+    cond_both (is_live x from got.session) (record x { sessions = map (with_acked from got.session got.upto) x.sessions; dispatch = with_stands x.dispatch from got got.stands }) x P (λ _. taken') (λ _. quiet')
+
 pub got_row-waiting : (x : Execution) (from : NodeId) (got : Got) → (got_row x from got).dispatch.waiting ≡ x.dispatch.waiting
-got_row-waiting x from got =
-    cond_both (is_live x from got.session) (record x { sessions = map (with_acked from got.session got.upto) x.sessions; dispatch = with_stands x.dispatch from got got.stands }) x
-    (λ (y : Execution). y.dispatch.waiting ≡ x.dispatch.waiting) (λ _. with_stands-waiting x.dispatch from got got.stands) (λ _. refl)
+got_row-waiting x from got = got_cases (λ y. y.dispatch.waiting ≡ x.dispatch.waiting) x from got (with_stands-waiting x.dispatch from got got.stands) refl
 
--- what is wanted of a step that a message made
-abbrev pub BroughtWell : List Entry → NodeId → ℕ → Stepped → Type 0
-BroughtWell past node number step =
-    Adds past (record { node = node; input = Deliver number; outputs = (end_step step step.node.primary).outs })
-    × PrimaryStays (record { node = node; input = Deliver number; outputs = (end_step step step.node.primary).outs } ∷ past) (end_step step step.node.primary).node
+got_facts : (setup : SetupState) (past : List Entry) (rows : Rows) (versions : Pieced Version) (from : NodeId) (got : Got) (x : Execution) → ExecutionFacts setup past rows versions x → ExecutionFacts setup past rows versions (got_row x from got)
+got_facts setup past rows versions from got x f =
+    got_cases (ExecutionFacts setup past rows versions) x from got
+    (changed setup past rows versions x (with_stands x.dispatch from got got.stands) (map (with_acked from got.session got.upto) x.sessions) f
+    (subst (AllByRecursion (WaitsWell setup past)) (sym (with_stands-waiting x.dispatch from got got.stands)) f.waiting)) f
 
-brought_still : (past : List Entry) (node me : NodeId) (setup : SetupState) (rows : Rows) (x y : Execution) (number : ℕ) → PrimaryFacts past x rows → y.branch ≡ x.branch → y.dispatch.waiting ≡ x.dispatch.waiting
-    → BroughtWell past node number (silent (primary_node me setup rows y))
-brought_still past node me setup rows x y number f branch waiting =
-    let e : Entry = record { node = node; input = Deliver number; outputs = decide_outs y } in
-    let r = primary_message past e x y rows refl refl refl f branch waiting in
-    (r.0, record { execution = decided y; primary = refl; following = refl; facts = r.1 })
+-- a part leaves the pairs of no following as they were, and every region
+stream_stays : (hashes : ℕ) (fs : List Following) (rows : Rows) (versions : Pieced Version) (from : NodeId) (stream : Stream) (view : ℕ) → versions.hashes ≡ hashes
+    → StoreStays hashes (holders following_region fs) rows (stream_all fs rows versions from stream view).rows versions (stream_all fs rows versions from stream view).versions
+stream_stays hashes [] rows versions from stream view same = stays_same hashes (holders following_region []) rows versions
+stream_stays hashes (f ∷ fs) rows versions from stream view same =
+    let count : ℕ → List ℕ → ℕ = holders following_region (f ∷ fs) in
+    let first : FollowingStep = stream_row f rows versions from stream view in
+    let rest : Streamed = stream_all fs rows versions from stream view in
+    cond_both (is_ours f from stream) (taken first fs) (left_alone f rest) (λ (r : Streamed). StoreStays hashes count rows r.rows versions r.versions)
+    (λ _. stream_cases (λ step. StoreStays hashes count rows step.rows versions step.versions) f rows versions from stream view (stays_same hashes count rows versions) (stays_same hashes count rows versions)
+    (stays_weaker hashes (λ h k. cond (in_region f.region h k) 1 0) count rows _ versions _
+    (λ h k none. let e = holders-rest following_region f fs h k in omega (arith, e, none))
+    (region_stays hashes stream.part f.region f.branch (timestamp_of stream.part) versions rows same)))
+    (λ _. stays_weaker hashes (holders following_region fs) count rows rest.rows versions rest.versions
+    (λ h k none. let e = holders-rest following_region f fs h k in omega (arith, e, none))
+    (stream_stays hashes fs rows versions from stream view same))
 
-by_message : (past : List Entry) (node me : NodeId) (setup : SetupState) (rows : Rows) (x : Execution) (number : ℕ) (from : NodeId) (m : Sent) → PrimaryFacts past x rows
-    → BroughtWell past node number (message_row (primary_node me setup rows x) from m)
-by_message past node me setup rows x number from (message.Stream stream) f = brought_still past node me setup rows x x number f refl refl
-by_message past node me setup rows x number from (message.Got got) f =
-    brought_still past node me setup rows x (got_row x from got) number f (got_row-branch x from got) (got_row-waiting x from got)
+record StreamFacts (fs : List Following) (versions : Pieced Version) (r : Streamed) : Type 0 where
+  hashes : r.versions.hashes ≡ versions.hashes
+  regions : map following_region r.followings ≡ map following_region fs
+  quiet' : (q : OpId) → answer_in r.outs q ≡ None
 
-primary_brought : (past : List Entry) (node me : NodeId) (setup : SetupState) (rows : Rows) (x : Execution) (number : ℕ) (b : Option Brought) → PrimaryFacts past x rows
-    → Adds past (step_entry node (primary_node me setup rows x) (Deliver number) b)
-    × PrimaryStays (step_entry node (primary_node me setup rows x) (Deliver number) b ∷ past) (node_step (primary_node me setup rows x) (Deliver number) b).node
-primary_brought past node me setup rows x number None f =
-    let e : Entry = step_entry node (primary_node me setup rows x) (Deliver number) None in
-    let r = primary_message past e x x rows refl refl refl f refl refl in
-    (r.0, record { execution = decided x; primary = refl; following = refl; facts = r.1 })
-primary_brought past node me setup rows x number (Some b) f =
-    let P : Stepped → Type 0 = λ step. BroughtWell past node number step in
-    cond_both (nat_lt b.from.0 setup.nodes) (message_row (primary_node me setup rows x) b.from b.message) (silent (primary_node me setup rows x)) P
-    (λ _. by_message past node me setup rows x number b.from b.message f)
-    (λ _. brought_still past node me setup rows x x number f refl refl)
+stream_facts : (fs : List Following) (rows : Rows) (versions : Pieced Version) (from : NodeId) (stream : Stream) (view : ℕ) → StreamFacts fs versions (stream_all fs rows versions from stream view)
+stream_facts [] rows versions from stream view = record { hashes = refl; regions = refl; quiet' = λ q. refl }
+stream_facts (f ∷ fs) rows versions from stream view =
+    let first : FollowingStep = stream_row f rows versions from stream view in
+    let rest : Streamed = stream_all fs rows versions from stream view in
+    let r = stream_facts fs rows versions from stream view in
+    cond_both (is_ours f from stream) (taken first fs) (left_alone f rest) (StreamFacts (f ∷ fs) versions)
+    (λ _. stream_cases (λ step. StreamFacts (f ∷ fs) versions (taken step fs)) f rows versions from stream view
+    (record { hashes = refl; regions = refl; quiet' = λ q. refl })
+    (record { hashes = refl; regions = refl; quiet' = λ q. refl })
+    (record { hashes = advanced_map_hashes f.region f.branch (timestamp_of stream.part) versions; regions = refl; quiet' = λ q. refl }))
+    (λ _. record { hashes = r.hashes; regions = ap (λ rs. f.region ∷ rs) r.regions; quiet' = r.quiet' })
 
-pub primary_step : (past : List Entry) (node me : NodeId) (setup : SetupState) (rows : Rows) (x : Execution) (input : Input) (b : Option Brought) → is_fresh past input ≡ true → PrimaryFacts past x rows
-    → Adds past (step_entry node (primary_node me setup rows x) input b)
-    × PrimaryStays (step_entry node (primary_node me setup rows x) input b ∷ past) (node_step (primary_node me setup rows x) input b).node
-primary_step past node me setup rows x (Request op key what) b fresh f = primary_request past node me setup rows x op key what b fresh f
-primary_step past node me setup rows x (GiveUp op) b fresh f = primary_give_up past node me setup rows x op b f
-primary_step past node me setup rows x (Deliver number) b fresh f = primary_brought past node me setup rows x number b f
+-- a node that holds at most one of its executions and followings at each pair
+abbrev pub HoldOne : List Execution → List Following → Type 0
+HoldOne xs fs = (h : ℕ) (k : List ℕ) → holders exec_region xs h k + holders following_region fs h k ≤ 1
 
--- ---- the steps of a secondary
+module _ (setup : SetupState) (past : List Entry) (node : NodeId) (number : ℕ) (outs : List Output) (n : ℕ) where
+  abbrev delivery : Entry
+  delivery = record { node = node; input = Deliver number; outputs = outs }
 
-abbrev pub secondary_node : NodeId → SetupState → Rows → Option Following → NodeState
-secondary_node me setup rows f = record { me = me; setup = setup; rows = rows; primary = None; following = f }
+  silent_middle : (s : NodeState) → StateFacts setup past n s → Middle setup past delivery n (silent s)
+  silent_middle s f =
+      record {
+        state =
+            record {
+              begun = f.begun;
+              facts = record { hashes = f.facts.hashes; regions = f.facts.regions; followed = f.facts.followed; runs = still_runs setup past delivery s.rows s.versions s.executions refl f.facts.runs };
+            };
+        answers = λ q. tt;
+      }
 
--- a step of a secondary has no point, its answers are known, and it stays a secondary
-pub record SecondaryStep (past : List Entry) (e : Entry) (s : NodeState) : Type 0 where
-  pub adds : Adds past e
-  pub none : points_of e.input e.outputs ≡ []
-  pub primary : s.primary ≡ None
+  message_middle : (s : NodeState) (from : NodeId) (m : Sent) → HoldOne s.executions s.followings → StateFacts setup past n s → Middle setup past delivery n (message_row s from m)
+  message_middle s from (message.Got got) one f =
+      let facts = ExecutionFacts setup past s.rows s.versions in
+      silent_middle (record s { executions = got_all s.executions from got })
+      (record {
+        begun = f.begun;
+        facts =
+            record {
+              hashes = f.facts.hashes;
+              regions = regions_map (λ x. got_row x from got) (λ x. got_cases (λ y. exec_region y ≡ exec_region x) x from got refl refl) s.executions ∙ f.facts.regions;
+              followed = f.facts.followed;
+              runs = all_map facts facts (λ x. got_row x from got) (got_facts setup past s.rows s.versions from got) s.executions f.facts.runs;
+            };
+      })
+  message_middle s from (message.Stream stream) one f =
+      let r : Streamed = stream_all s.followings s.rows s.versions from stream 0 in
+      let known = stream_facts s.followings s.rows s.versions from stream 0 in
+      record {
+        state =
+            record {
+              begun = f.begun;
+              facts =
+                  record {
+                    hashes = known.hashes ∙ f.facts.hashes;
+                    regions = f.facts.regions;
+                    followed = known.regions ∙ f.facts.followed;
+                    runs = all_kept setup past delivery (holders following_region s.followings) s.rows r.rows s.versions r.versions s.executions one
+                        (stream_stays setup.hashes s.followings s.rows s.versions from stream 0 f.facts.hashes) (paths_still setup past delivery (holders following_region s.followings) refl) f.facts.runs;
+                  };
+            };
+        answers = λ q. subst (λ (v : Option Outcome). Answered setup past delivery q v) (sym (known.quiet' q)) tt;
+      }
 
-secondary_silent : (past : List Entry) (e : Entry) (s : NodeState) → is_fresh past e.input ≡ true → points_of e.input e.outputs ≡ [] → ((q : OpId) → answer_in e.outputs q ≡ None) → s.primary ≡ None → SecondaryStep past e s
-secondary_silent past e s fresh none quiet' is =
-    record { adds = still_adds past e fresh none (λ q. subst (λ (v : Option Outcome). Answered past e q v) (sym (quiet' q)) tt); none = none; primary = is }
+  brought_middle : (s : NodeState) (b : Option Brought) → HoldOne s.executions s.followings → StateFacts setup past n s → Middle setup past delivery n (brought_row s b)
+  brought_middle s None one f = silent_middle s f
+  brought_middle s (Some b) one f =
+      cond_both (nat_lt b.from.0 s.setup.nodes) (message_row s b.from b.message) (silent s) (Middle setup past delivery n)
+      (λ _. message_middle s b.from b.message one f) (λ _. silent_middle s f)
 
--- what is wanted of a step that a message made
-abbrev pub SecondaryWell : List Entry → NodeId → ℕ → Stepped → Type 0
-SecondaryWell past node number step =
-    SecondaryStep past (record { node = node; input = Deliver number; outputs = (end_step step step.node.primary).outs }) (end_step step step.node.primary).node
+-- ---- the whole step
 
-secondary_quiet : (past : List Entry) (node : NodeId) (number : ℕ) (step : Stepped) → step.node.primary ≡ None → ((q : OpId) → answer_in step.outs q ≡ None) → SecondaryWell past node number step
-secondary_quiet past node number step is quiet' =
-    let same : end_step step step.node.primary ≡ step = ap (end_step step) is in
-    subst (λ (s : Stepped). SecondaryStep past (record { node = node; input = Deliver number; outputs = s.outs }) s.node) (sym same)
-    (secondary_silent past (record { node = node; input = Deliver number; outputs = step.outs }) step.node refl refl quiet' is)
+pub record StepFacts (setup : SetupState) (past : List Entry) (n : ℕ) (executions : List Execution) (s : NodeState) (e : Entry) : Type 0 where
+  pub adds : Adds setup past e
+  pub own : StateFacts setup (e ∷ past) n s
+  pub others : PathsStay setup (holders exec_region executions) past e
 
-secondary_message : (past : List Entry) (node me : NodeId) (setup : SetupState) (rows : Rows) (f : Option Following) (number : ℕ) (from : NodeId) (m : Sent) → SecondaryWell past node number (message_row (secondary_node me setup rows f) from m)
-secondary_message past node me setup rows None number from (message.Stream stream) = secondary_quiet past node number (silent (secondary_node me setup rows None)) refl (λ q. refl)
-secondary_message past node me setup rows (Some g) number from (message.Stream stream) =
-    secondary_quiet past node number (message_row (secondary_node me setup rows (Some g)) from (message.Stream stream)) refl (λ q. answer_in-stream g rows from stream 0 q)
-secondary_message past node me setup rows f number from (message.Got got) = secondary_quiet past node number (silent (secondary_node me setup rows f)) refl (λ q. refl)
+-- the entry of a step
+abbrev pub step_entry : NodeId → NodeState → Input → Option Brought → Entry
+step_entry node s input b = record { node = node; input = input; outputs = (node_step s input b).outs }
 
-pub secondary_step : (past : List Entry) (node me : NodeId) (setup : SetupState) (rows : Rows) (f : Option Following) (input : Input) (b : Option Brought) → is_fresh past input ≡ true
-    → SecondaryStep past (step_entry node (secondary_node me setup rows f) input b) (node_step (secondary_node me setup rows f) input b).node
-secondary_step past node me setup rows f (Request op key what) b fresh =
-    let e : Entry = step_entry node (secondary_node me setup rows f) (Request op key what) b in
+-- a step without a point
+still_step : (setup : SetupState) (past : List Entry) (node : NodeId) (input : Input) (n : ℕ) (executions : List Execution) (step : Stepped) → is_fresh past input ≡ true → points_of input (end_step step).outs ≡ []
+    → Middle setup past (record { node = node; input = input; outputs = (end_step step).outs }) n step
+    → StepFacts setup past n executions (end_step step).node (record { node = node; input = input; outputs = (end_step step).outs })
+still_step setup past node input n executions step fresh none m =
+    let e : Entry = record { node = node; input = input; outputs = (end_step step).outs } in
     record {
-      adds = still_adds past e fresh refl (λ q. cond_both (same_op op q) (Some NotServing) None (λ (v : Option Outcome). Answered past e q v) (λ same. (same, refl)) (λ _. tt));
-      none = refl;
-      primary = refl;
+      adds = still_adds setup past e fresh none (end_answers setup past e n step m);
+      own = end_state setup (e ∷ past) n step m.state;
+      others = paths_still setup past e (holders exec_region executions) none;
     }
-secondary_step past node me setup rows f (GiveUp op) b fresh =
-    secondary_silent past (step_entry node (secondary_node me setup rows f) (GiveUp op) b) (node_step (secondary_node me setup rows f) (GiveUp op) b).node refl refl (λ q. refl) refl
-secondary_step past node me setup rows f (Deliver number) None fresh =
-    secondary_silent past (step_entry node (secondary_node me setup rows f) (Deliver number) None) (node_step (secondary_node me setup rows f) (Deliver number) None).node refl refl (λ q. refl) refl
-secondary_step past node me setup rows f (Deliver number) (Some b) fresh =
-    cond_both (nat_lt b.from.0 setup.nodes) (message_row (secondary_node me setup rows f) b.from b.message) (silent (secondary_node me setup rows f)) (SecondaryWell past node number)
-    (λ _. secondary_message past node me setup rows f number b.from b.message)
-    (λ _. secondary_quiet past node number (silent (secondary_node me setup rows f)) refl (λ q. refl))
+
+-- what a request adds
+request_adds : (setup : SetupState) (past : List Entry) (node : NodeId) (op : OpId) (key : List ℕ) (what : Op) (outs : List Output) (xs : List Execution) → is_fresh past (Request op key what) ≡ true
+    → RequestPoints setup.hashes xs op key what (points_in what outs) → ((q : OpId) → Answered setup past (request_entry setup past node op key what outs) q (answer_in outs q))
+    → Adds setup past (request_entry setup past node op key what outs)
+request_adds setup past node op key what outs xs fresh pts known =
+    let e : Entry = request_entry setup past node op key what outs in
+    elim pts [
+      | inl p ↦ still_adds setup past e fresh p.1 known
+      | inr p ↦
+          let new : Point = point_at op key what p.1.0 p.1.1 in
+          record {
+            fresh = fresh;
+            new = λ q i. elim (subst (λ (l : List Point). IsIn l q) p.1.2 i) [ inl is ↦ (ap (λ (v : Point). v.op) is, ap (λ (v : Point). v.key) is, ap (λ (v : Point). v.what) is) | inr h ↦ absurd h ];
+            few = λ q. subst (λ (l : List Point). point_times l q ≤ 1) (sym p.1.2) (at_most_one (same_op op q));
+            says = λ q outcome is. record { says = subst (λ (v : Option Outcome). Answered setup past e q v) is (known q) };
+          }
+    ]
+  where
+    at_most_one : (c : Bool) → cond c 1 0 + 0 ≤ 1
+    at_most_one true = omega arith
+    at_most_one false = omega arith
+
+request_step : (setup : SetupState) (past : List Entry) (node : NodeId) (n : ℕ) (s : NodeState) (op : OpId) (key : List ℕ) (what : Op) → 0 < setup.hashes → is_fresh past (Request op key what) ≡ true → HoldOne s.executions s.followings
+    → NodeFacts setup past n s.rows s.versions s.executions s.followings
+    → StepFacts setup past n s.executions (end_step (request_row (record s { setup = setup }) op key what)).node
+    (record { node = node; input = Request op key what; outputs = (end_step (request_row (record s { setup = setup }) op key what)).outs })
+request_step setup past node n s op key what some fresh one f =
+    let r : Requested = request_all setup.hashes s.executions s.rows s.versions op key what in
+    let step : Stepped = with_requested (record s { setup = setup }) r in
+    let outs : List Output = (end_step step).outs in
+    let e : Entry = request_entry setup past node op key what outs in
+    let pts : points_in what outs ≡ points_in what r.outs = points_in-end what r.outs r.executions in
+    let these : RequestPoints setup.hashes s.executions op key what (points_in what outs) =
+    subst (RequestPoints setup.hashes s.executions op key what) (sym pts) (request_points setup.hashes s.executions s.rows s.versions op key what) in
+    let m : Middle setup past e n step =
+    record {
+      state =
+          record {
+            begun = refl;
+            facts =
+                record {
+                  hashes = request_hashes setup.hashes s.executions s.rows s.versions op key what ∙ f.hashes;
+                  regions = request_regions setup.hashes s.executions s.rows s.versions op key what ∙ f.regions;
+                  followed = f.followed;
+                  runs = request_runs setup past node op key what outs s.executions s.rows s.versions some f.hashes pts (λ h k. let both = one h k in omega (arith, both)) f.runs;
+                };
+          };
+      answers = request_answers setup past node op key what outs setup.hashes s.executions s.rows s.versions pts;
+    } in
+    record {
+      adds = request_adds setup past node op key what outs s.executions fresh these (end_answers setup past e n step m);
+      own = end_state setup (e ∷ past) n step m.state;
+      others = request_paths setup past node op key what outs s.executions these;
+    }
+
+pub node_facts : (setup : SetupState) (past : List Entry) (node : NodeId) (n : ℕ) (s : NodeState) (input : Input) (b : Option Brought) → 0 < setup.hashes → is_fresh past input ≡ true → HoldOne s.executions s.followings
+    → StateFacts setup past n s → StepFacts setup past n s.executions (node_step s input b).node (step_entry node s input b)
+node_facts setup past node n s (Request op key what) b some fresh one f =
+    let shape : record s { setup = setup } ≡ s = λ i. record s { setup = sym f.begun i } in
+    subst (λ (v : NodeState). StepFacts setup past n s.executions (node_step v (Request op key what) b).node (step_entry node v (Request op key what) b)) shape
+    (request_step setup past node n s op key what some fresh one f.facts)
+node_facts setup past node n s (GiveUp op) b some fresh one f =
+    still_step setup past node (GiveUp op) n s.executions (give_up s op) refl refl (give_up_middle setup past node (end_step (give_up s op)).outs n s op f)
+node_facts setup past node n s (Deliver number) b some fresh one f =
+    still_step setup past node (Deliver number) n s.executions (brought_row s b) refl refl (brought_middle setup past node number (end_step (brought_row s b)).outs n s b one f)

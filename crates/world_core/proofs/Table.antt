@@ -1,12 +1,14 @@
--- Who serves in a run, and for whom its messages are.
-use Rattle.std.proofs.Common.{◌≡◌, ℕ, zero, suc, ◌+◌, ◌<◌, ◌≤◌, ◌==◌, true, false, cond, ◌&&◌, nat_lt, nat_le, not, List, [], ◌∷◌, ◌++◌, map, filter, Option, Some, None, is_some, refl, sym, ap, ◌∙◌, subst, arith}
-use Rattle.std.proofs.lemmas.Bool.{cond_both, and_parts, eqb-true, ltb-true, lt-ltb}
+-- For whom the messages of a run are.
+use Rattle.std.proofs.Common.{◌≡◌, ℕ, zero, suc, ◌+◌, ◌<◌, ◌==◌, true, cond, not, ◌&&◌, nat_lt, nat_le, List, [], ◌∷◌, ◌++◌, map, filter, Option, Some, None, sym, ◌∙◌, subst, arith}
+use Rattle.std.proofs.lemmas.Bool.{cond_both, and_parts, ltb-true}
 use Rattle.std.specs.List.{AllByRecursion}
 use Rattle.std.specs.Prelude.{slice_get}
 use Rattle.region_map.specs.declared.id.NodeId.{NodeId}
+use Rattle.region_map.specs.Maps.{Pieced}
+use Rattle.branch_history.specs.declared.version.Version.{Version}
 use Rattle.register_laws.specs.declared.operation.OpId.{OpId}
 use Rattle.register_laws.specs.declared.operation.Op.{Op}
-use Rattle.contract_types.specs.Setup.{SetupState}
+use Rattle.contract_types.specs.Setup.{SetupState, IsSetup}
 use Rattle.exec_types.specs.declared.input.Input.{Input}
 use Rattle.exec_types.specs.declared.input.Input.TheVariants.{Request, GiveUp, Deliver}
 use Rattle.exec_types.specs.declared.message.Message.{Message as Sent}
@@ -15,33 +17,24 @@ use Rattle.exec_types.specs.declared.message.SessionName.{SessionName}
 use Rattle.exec_types.specs.declared.message.Got.{Got}
 use Rattle.exec_types.specs.declared.message.Part.{Part}
 use Rattle.exec_types.specs.declared.message.Stream.{Stream}
+use Rattle.exec_types.specs.declared.outcome.Outcome.TheVariants.{NoMajority}
 use Rattle.exec_types.specs.declared.output.Output.{Output}
 use Rattle.exec_types.specs.declared.output.Output.TheVariants.{Message, Dispatched, Answer}
-use Rattle.store_plain.specs.Rows.{Rows, value_of}
+use Rattle.store_api.specs.Rows.{Rows, value_of}
 use Rattle.write_dispatch.specs.declared.decided.Decided.{Decided}
-use Rattle.write_dispatch.specs.Dispatch.{pending_of}
+use Rattle.write_dispatch.specs.Dispatch.{counts_of, is_decided, pending_of}
 use Rattle.primary_exec.specs.declared.session.Session.{Session}
-use Rattle.primary_exec.specs.Execution.{Execution, has_room, with_sent, sends, part_of, with_acked, is_live, with_stands, answers, decides, decided_answers, decide_outs, give_up_outs}
+use Rattle.primary_exec.specs.Execution.{Execution, has_room, with_sent, sends, part_of, dispatch_row, with_acked, is_live, with_stands, answers, decides, decided_answers, decide_outs, given_up, give_up_outs}
 use Rattle.secondary_exec.specs.declared.following.Following.{Following}
-use Rattle.secondary_exec.specs.Stream.{FollowingStep, stream_row, is_ours, take_part, is_next, applied, with_part, acknowledgement, quiet}
+use Rattle.secondary_exec.specs.Stream.{FollowingStep, stream_row, is_ours, take_part, is_next, apply_part, acknowledgement, quiet}
 use Rattle.node_core.specs.declared.node.Brought.{Brought}
 use Rattle.node_core.specs.declared.journal.Entry.{Entry}
-use Rattle.node_core.specs.Step.{NodeState, Stepped, setup_session, setup_sessions, setup_execution, setup_following, silent, serves, give_up, take_stream, take_got, message_row, is_well_formed, brought_row, request_row, input_row, end_step, node_step, ends_numbers}
+use Rattle.node_core.specs.Parts.{Requested, Streamed, is_for, dispatched, passed_on, request_all, taken, left_alone, stream_all, got_all, give_up_all, give_up_all_outs, decide_all, decide_all_outs}
+use Rattle.node_core.specs.Step.{NodeState, Stepped, silent, message_row, is_well_formed, brought_row, input_row, node_step, ends_numbers}
 use Rattle.world_core.specs.declared.envelope.Envelope.{Envelope}
 use Rattle.world_core.specs.Run.{sent_by, sent, message_at, arrives, is_fresh, brought, state, IsStep, IsRun}
-use Rattle.world_core.proofs.Runs.{run_facts}
+use Rattle.world_core.proofs.Setups.{begins_within}
 use Rattle.world_core.proofs.Waits.{numbered_from}
-
--- ---- who serves
-
--- node 0 serves every key, and no other node any
-pub only_first_serves : (setup : SetupState) (past : List Entry) → IsRun setup past → (n : ℕ) (key : List ℕ) → serves (state setup n past) key ≡ (n == 0)
-only_first_serves setup past h n key =
-    let f = (run_facts setup past h).1 in
-    elim (n == 0) as (λ c. (n == 0) ≡ c → is_some (state setup n past).primary ≡ c) [
-      | true ↦ λ is. ap (λ (m : ℕ). is_some (state setup m past).primary) (eqb-true n 0 is) ∙ ap (λ (o : Option Execution). is_some o) f.primary.primary
-      | false ↦ λ ne. ap (λ (o : Option Execution). is_some o) (f.others n ne)
-    ] refl
 
 -- ---- what names a node of the table
 
@@ -53,23 +46,27 @@ GoesWithin nodes (Answer op outcome) = Unit {0}
 abbrev IsWith : ℕ → Session → Type 0
 IsWith nodes session = nat_lt session.server.0 nodes ≡ true
 
-abbrev SessionsWithin : ℕ → Option Execution → Type 0
-SessionsWithin nodes None = Unit {0}
-SessionsWithin nodes (Some x) = AllByRecursion (IsWith nodes) x.sessions
+abbrev SessionsWithin : ℕ → Execution → Type 0
+SessionsWithin nodes x = AllByRecursion (IsWith nodes) x.sessions
 
-abbrev FollowsWithin : ℕ → Option Following → Type 0
-FollowsWithin nodes None = Unit {0}
-FollowsWithin nodes (Some f) = nat_lt f.primary.0 nodes ≡ true
+abbrev FollowsWithin : ℕ → Following → Type 0
+FollowsWithin nodes f = nat_lt f.primary.0 nodes ≡ true
+
+abbrev AllSessionsWithin : ℕ → List Execution → Type 0
+AllSessionsWithin nodes xs = AllByRecursion (SessionsWithin nodes) xs
+
+abbrev AllFollowWithin : ℕ → List Following → Type 0
+AllFollowWithin nodes fs = AllByRecursion (FollowsWithin nodes) fs
 
 -- a step that sends to nodes of the table alone, and knows no others
 record StaysWithin (nodes : ℕ) (step : Stepped) : Type 0 where
   outs : AllByRecursion (GoesWithin nodes) step.outs
-  sessions : SessionsWithin nodes step.node.primary
-  follows : FollowsWithin nodes step.node.following
+  sessions : AllSessionsWithin nodes step.node.executions
+  follows : AllFollowWithin nodes step.node.followings
 
 record KnowsTable (nodes : ℕ) (s : NodeState) : Type 0 where
-  sessions : SessionsWithin nodes s.primary
-  follows : FollowsWithin nodes s.following
+  sessions : AllSessionsWithin nodes s.executions
+  follows : AllFollowWithin nodes s.followings
 
 -- ---- lists
 
@@ -109,65 +106,91 @@ module _ (nodes : ℕ) where
       cond_both (decides x d) (answers x.branch d d.op ++ decided_answers x ds) [] (λ (l : List Output). AllByRecursion (GoesWithin nodes) l)
       (λ _. within_answers x d d.op (decided_answers x ds) (within_decided x ds)) (λ _. tt)
 
+  within_all_decided : (xs : List Execution) → AllByRecursion (GoesWithin nodes) (decide_all_outs xs)
+  within_all_decided [] = tt
+  within_all_decided (x ∷ xs) = all_append (GoesWithin nodes) (decide_outs x) (decide_all_outs xs) (within_decided x x.dispatch.waiting) (within_all_decided xs)
+
   -- ---- the rows of a step
+
+  -- what a request gives goes to nodes of the table, and no other becomes known
+  record RequestWithin (r : Requested) : Type 0 where
+    outs : AllByRecursion (GoesWithin nodes) r.outs
+    sessions : AllSessionsWithin nodes r.executions
+
+  dispatch_within : (x : Execution) (rows : Rows) (versions : Pieced Version) (op : OpId) (key : List ℕ) (what : Op) → SessionsWithin nodes x
+      → AllByRecursion (GoesWithin nodes) (dispatch_row x rows versions op key what).outs × SessionsWithin nodes (dispatch_row x rows versions op key what).execution
+  dispatch_within x rows versions op key what h =
+      let part : Part = part_of (value_of rows key) (x.last + 1) key what in
+      let sessions : List Session = filter has_room x.sessions in
+      let with = within_room x.sessions h in
+      (all_append (GoesWithin nodes) (map (sends part) sessions) (Dispatched op key x.branch (x.last + 1) ∷ []) (within_sends part sessions with) (tt, tt), within_sent sessions with)
+
+  request_within : (hashes : ℕ) (xs : List Execution) (rows : Rows) (versions : Pieced Version) (op : OpId) (key : List ℕ) (what : Op) → AllSessionsWithin nodes xs
+      → RequestWithin (request_all hashes xs rows versions op key what)
+  request_within hashes [] rows versions op key what h = record { outs = (tt, tt); sessions = tt }
+  request_within hashes (x ∷ xs) rows versions op key what h =
+      let here = dispatch_within x rows versions op key what h.0 in
+      let later = request_within hashes xs rows versions op key what h.1 in
+      cond_both (is_for hashes key x) (dispatched (dispatch_row x rows versions op key what) xs) (passed_on x (request_all hashes xs rows versions op key what)) RequestWithin
+      (λ _. record { outs = here.0; sessions = (here.1, h.1) })
+      (λ _. record { outs = later.outs; sessions = (h.0, later.sessions) })
+
+  given_up_within : (x : Execution) (op : OpId) (o : Option Decided) → AllByRecursion (GoesWithin nodes) (given_up x.dispatch.acks x.contract x.me.0 op o)
+  given_up_within x op None = tt
+  given_up_within x op (Some d) =
+      cond_both (is_decided x.dispatch.acks x.contract x.me.0 d.at) [] (Answer op (NoMajority (counts_of x.dispatch.acks x.contract x.me.0 d.at)) ∷ []) (λ (l : List Output). AllByRecursion (GoesWithin nodes) l)
+      (λ _. tt) (λ _. (tt, tt))
+
+  give_up_within : (xs : List Execution) (op : OpId) → AllSessionsWithin nodes xs → AllByRecursion (GoesWithin nodes) (give_up_all_outs xs op) × AllSessionsWithin nodes (give_up_all xs op)
+  give_up_within [] op h = (tt, tt)
+  give_up_within (x ∷ xs) op h =
+      let rest = give_up_within xs op h.1 in
+      (all_append (GoesWithin nodes) (give_up_outs x op) (give_up_all_outs xs op) (given_up_within x op (pending_of x.dispatch.waiting op)) rest.0, (h.0, rest.1))
+
+  part_within : (f : Following) (rows : Rows) (versions : Pieced Version) (from : NodeId) (stream : Stream) → FollowsWithin nodes f
+      → AllByRecursion (GoesWithin nodes) (stream_row f rows versions from stream 0).outs × FollowsWithin nodes (stream_row f rows versions from stream 0).following
+  part_within f rows versions from stream h =
+      let P : FollowingStep → Type 0 = λ step. AllByRecursion (GoesWithin nodes) step.outs × FollowsWithin nodes step.following in
+      let again : FollowingStep = record { following = f; rows = rows; versions = versions; outs = acknowledgement f 0 ∷ [] } in
+      let next : FollowingStep = apply_part f rows versions stream 0 in
+      cond_both (is_ours f from stream) (take_part f rows versions stream 0) (quiet f rows versions) P
+      (λ _. cond_both (nat_le stream.number f.got) again (cond (is_next f stream) next (quiet f rows versions)) P (λ _. ((h, tt), h))
+      (λ _. cond_both (is_next f stream) next (quiet f rows versions) P (λ _. ((h, tt), h)) (λ _. (tt, h))))
+      (λ _. (tt, h))
+
+  record StreamWithin (r : Streamed) : Type 0 where
+    outs : AllByRecursion (GoesWithin nodes) r.outs
+    follows : AllFollowWithin nodes r.followings
+
+  stream_within : (fs : List Following) (rows : Rows) (versions : Pieced Version) (from : NodeId) (stream : Stream) → AllFollowWithin nodes fs → StreamWithin (stream_all fs rows versions from stream 0)
+  stream_within [] rows versions from stream h = record { outs = tt; follows = tt }
+  stream_within (f ∷ fs) rows versions from stream h =
+      let here = part_within f rows versions from stream h.0 in
+      let later = stream_within fs rows versions from stream h.1 in
+      cond_both (is_ours f from stream) (taken (stream_row f rows versions from stream 0) fs) (left_alone f (stream_all fs rows versions from stream 0)) StreamWithin
+      (λ _. record { outs = here.0; follows = (here.1, h.1) })
+      (λ _. record { outs = later.outs; follows = (h.0, later.follows) })
+
+  got_within : (xs : List Execution) (from : NodeId) (got : Got) → AllSessionsWithin nodes xs → AllSessionsWithin nodes (got_all xs from got)
+  got_within [] from got h = tt
+  got_within (x ∷ xs) from got h = (
+    cond_both (is_live x from got.session) (record x { sessions = map (with_acked from got.session got.upto) x.sessions; dispatch = with_stands x.dispatch from got got.stands }) x
+        (SessionsWithin nodes) (λ _. within_acked from got.session got.upto x.sessions h.0) (λ _. h.0),
+    got_within xs from got h.1,
+  )
+
+  decided_within : (xs : List Execution) → AllSessionsWithin nodes xs → AllSessionsWithin nodes (decide_all xs)
+  decided_within [] h = tt
+  decided_within (x ∷ xs) h = (h.0, decided_within xs h.1)
 
   silent_stays : (s : NodeState) → KnowsTable nodes s → StaysWithin nodes (silent s)
   silent_stays s h = record { outs = tt; sessions = h.sessions; follows = h.follows }
 
-  request_stays : (s : NodeState) (o : Option Execution) (op : OpId) (key : List ℕ) (what : Op) → s.primary ≡ o → KnowsTable nodes s → StaysWithin nodes (request_row s op key what)
-  request_stays s None op key what e h =
-      subst (λ (v : Option Execution). StaysWithin nodes (request_row (record s { primary = v }) op key what)) (sym e)
-      (record { outs = (tt, tt); sessions = tt; follows = h.follows })
-  request_stays s (Some x) op key what e h =
-      let part : Part = part_of (value_of s.rows key) (x.last + 1) key what in
-      let with : AllByRecursion (IsWith nodes) (filter has_room x.sessions) = within_room x.sessions (subst (SessionsWithin nodes) e h.sessions) in
-      subst (λ (v : Option Execution). StaysWithin nodes (request_row (record s { primary = v }) op key what)) (sym e)
-      (record {
-        outs = all_append (GoesWithin nodes) (map (sends part) (filter has_room x.sessions)) (Dispatched op key x.branch (x.last + 1) ∷ []) (within_sends part (filter has_room x.sessions) with) (tt, tt);
-        sessions = within_sent (filter has_room x.sessions) with;
-        follows = h.follows;
-      })
-
-  given_up_stays : (x : Execution) (op : OpId) (o : Option Decided) → pending_of x.dispatch.waiting op ≡ o → AllByRecursion (GoesWithin nodes) (give_up_outs x op)
-  given_up_stays x op None e = grind arith
-  given_up_stays x op (Some d) e = grind arith
-
-  give_up_stays : (s : NodeState) (o : Option Execution) (op : OpId) → s.primary ≡ o → KnowsTable nodes s → StaysWithin nodes (give_up s o op)
-  give_up_stays s None op e h = silent_stays s h
-  give_up_stays s (Some x) op e h =
-      record { outs = given_up_stays x op (pending_of x.dispatch.waiting op) refl; sessions = subst (SessionsWithin nodes) e h.sessions; follows = h.follows }
-
-  stream_stays : (f : Following) (rows : Rows) (from : NodeId) (stream : Stream) → nat_lt f.primary.0 nodes ≡ true
-      → AllByRecursion (GoesWithin nodes) (stream_row f rows from stream 0).outs × (nat_lt (stream_row f rows from stream 0).following.primary.0 nodes ≡ true)
-  stream_stays f rows from stream h =
-      let P : FollowingStep → Type 0 = λ step. AllByRecursion (GoesWithin nodes) step.outs × (nat_lt step.following.primary.0 nodes ≡ true) in
-      let again : FollowingStep = record { following = f; rows = rows; outs = acknowledgement f 0 ∷ [] } in
-      let next : FollowingStep = record { following = applied f stream; rows = with_part rows stream.part; outs = acknowledgement (applied f stream) 0 ∷ [] } in
-      cond_both (is_ours f from stream) (take_part f rows stream 0) (quiet f rows) P
-      (λ _. cond_both (nat_le stream.number f.got) again (cond (is_next f stream) next (quiet f rows)) P (λ _. ((h, tt), h))
-      (λ _. cond_both (is_next f stream) next (quiet f rows) P (λ _. ((h, tt), h)) (λ _. (tt, h))))
-      (λ _. (tt, h))
-
-  take_stream_stays : (s : NodeState) (o : Option Following) (from : NodeId) (stream : Stream) → s.following ≡ o → KnowsTable nodes s → StaysWithin nodes (take_stream s o from stream)
-  take_stream_stays s None from stream e h = silent_stays s h
-  take_stream_stays s (Some f) from stream e h =
-      let r = stream_stays f s.rows from stream (subst (FollowsWithin nodes) e h.follows) in
-      record { outs = r.0; sessions = h.sessions; follows = r.1 }
-
-  take_got_stays : (s : NodeState) (o : Option Execution) (from : NodeId) (got : Got) → s.primary ≡ o → KnowsTable nodes s → StaysWithin nodes (take_got s o from got)
-  take_got_stays s None from got e h = silent_stays s h
-  take_got_stays s (Some x) from got e h =
-      let with : AllByRecursion (IsWith nodes) x.sessions = subst (SessionsWithin nodes) e h.sessions in
-      record {
-        outs = tt;
-        sessions = cond_both (is_live x from got.session) (record x { sessions = map (with_acked from got.session got.upto) x.sessions; dispatch = with_stands x.dispatch from got got.stands }) x
-            (λ (y : Execution). AllByRecursion (IsWith nodes) y.sessions) (λ _. within_acked from got.session got.upto x.sessions with) (λ _. with);
-        follows = h.follows;
-      }
-
   message_stays : (s : NodeState) (from : NodeId) (m : Sent) → KnowsTable nodes s → StaysWithin nodes (message_row s from m)
-  message_stays s from (message.Stream stream) h = take_stream_stays s s.following from stream refl h
-  message_stays s from (message.Got got) h = take_got_stays s s.primary from got refl h
+  message_stays s from (message.Stream stream) h =
+      let r = stream_within s.followings s.rows s.versions from stream h.follows in
+      record { outs = r.outs; sessions = h.sessions; follows = r.follows }
+  message_stays s from (message.Got got) h = record { outs = tt; sessions = got_within s.executions from got h.sessions; follows = h.follows }
 
   brought_stays : (s : NodeState) (b : Option Brought) → KnowsTable nodes s → StaysWithin nodes (brought_row s b)
   brought_stays s None h = silent_stays s h
@@ -175,46 +198,37 @@ module _ (nodes : ℕ) where
       cond_both (is_well_formed s b) (message_row s b.from b.message) (silent s) (StaysWithin nodes) (λ _. message_stays s b.from b.message h) (λ _. silent_stays s h)
 
   row_stays : (s : NodeState) (input : Input) (b : Option Brought) → KnowsTable nodes s → StaysWithin nodes (input_row s input b)
-  row_stays s (Request op key what) b h = request_stays s s.primary op key what refl h
-  row_stays s (GiveUp op) b h = give_up_stays s s.primary op refl h
+  row_stays s (Request op key what) b h =
+      let r = request_within s.setup.hashes s.executions s.rows s.versions op key what h.sessions in
+      record { outs = r.outs; sessions = r.sessions; follows = h.follows }
+  row_stays s (GiveUp op) b h =
+      let r = give_up_within s.executions op h.sessions in
+      record { outs = r.0; sessions = r.1; follows = h.follows }
   row_stays s (Deliver number) b h = brought_stays s b h
 
-  end_stays : (step : Stepped) (o : Option Execution) → step.node.primary ≡ o → StaysWithin nodes step → StaysWithin nodes (end_step step o)
-  end_stays step None e h = h
-  end_stays step (Some x) e h =
-      record {
-        outs = all_append (GoesWithin nodes) step.outs (decide_outs x) h.outs (within_decided x x.dispatch.waiting);
-        sessions = subst (SessionsWithin nodes) e h.sessions;
-        follows = h.follows;
-      }
-
   step_stays : (s : NodeState) (input : Input) (b : Option Brought) → KnowsTable nodes s → StaysWithin nodes (node_step s input b)
-  step_stays s input b h = let step : Stepped = input_row s input b in end_stays step step.node.primary refl (row_stays s input b h)
-
-  -- ---- what a table begins with
-
-  setup_with : (n : ℕ) → n ≤ nodes → AllByRecursion (IsWith nodes) (setup_sessions n)
-  setup_with zero h = tt
-  setup_with (suc zero) h = tt
-  setup_with (suc (suc n)) h =
-      all_append (IsWith nodes) (setup_sessions (suc n)) (setup_session (suc n) ∷ []) (setup_with (suc n) (omega arith)) (lt-ltb (suc n) nodes (omega arith), tt)
+  step_stays s input b h =
+      let step : Stepped = input_row s input b in
+      let r = row_stays s input b h in
+      record {
+        outs = all_append (GoesWithin nodes) step.outs (decide_all_outs step.node.executions) r.outs (within_all_decided step.node.executions);
+        sessions = decided_within step.node.executions r.sessions;
+        follows = r.follows;
+      }
 
 -- ---- runs
 
 -- the node of an entry is one of the table
-node_within : (setup : SetupState) (past : List Entry) (e : Entry) → IsStep setup past e → nat_lt e.node.0 setup.nodes ≡ true
+pub node_within : (setup : SetupState) (past : List Entry) (e : Entry) → IsStep setup past e → nat_lt e.node.0 setup.nodes ≡ true
 node_within setup past e h =
     let most = and_parts (nat_lt e.node.0 setup.nodes && arrives past e.node e.input && is_fresh past e.input) (not (ends_numbers (state setup e.node.0 past) e.input (brought past e.input))) h.allowed in
     let more = and_parts (nat_lt e.node.0 setup.nodes && arrives past e.node e.input) (is_fresh past e.input) most.0 in
     (and_parts (nat_lt e.node.0 setup.nodes) (arrives past e.node e.input) more.0).0
 
-knows_table : (setup : SetupState) (past : List Entry) (n : ℕ) → n < setup.nodes → KnowsTable setup.nodes (state setup n past)
-knows_table setup [] n h = record {
-  sessions = cond_both (n == 0) (Some (setup_execution setup)) None (SessionsWithin setup.nodes) (λ _. setup_with setup.nodes setup.nodes (omega arith)) (λ _. tt);
-  follows = cond_both (n == 0) None (Some (setup_following n)) (FollowsWithin setup.nodes) (λ _. tt) (λ _. lt-ltb 0 setup.nodes (omega arith));
-}
-knows_table setup (e ∷ past) n h =
-    let before = knows_table setup past n h in
+knows_table : (setup : SetupState) → IsSetup setup → (past : List Entry) (n : ℕ) → n < setup.nodes → KnowsTable setup.nodes (state setup n past)
+knows_table setup valid [] n h = let begun = begins_within setup valid n h in record { sessions = begun.0; follows = begun.1 }
+knows_table setup valid (e ∷ past) n h =
+    let before = knows_table setup valid past n h in
     let after = step_stays setup.nodes (state setup n past) e.input (brought past e.input) before in
     cond_both (e.node.0 == n) (node_step (state setup n past) e.input (brought past e.input)).node (state setup n past) (KnowsTable setup.nodes)
     (λ _. record { sessions = after.sessions; follows = after.follows }) (λ _. before)
@@ -229,13 +243,13 @@ sent_by_within nodes from (Message to message ∷ outs) f h = ((f, ltb-true to.0
 sent_by_within nodes from (Dispatched op key branch timestamp ∷ outs) f h = sent_by_within nodes from outs f h.1
 sent_by_within nodes from (Answer op outcome ∷ outs) f h = sent_by_within nodes from outs f h.1
 
-sent_within : (setup : SetupState) (past : List Entry) → IsRun setup past → AllByRecursion (IsWithin setup.nodes) (sent past)
-sent_within setup [] h = tt
-sent_within setup (e ∷ past) h =
+sent_within : (setup : SetupState) → IsSetup setup → (past : List Entry) → IsRun setup past → AllByRecursion (IsWithin setup.nodes) (sent past)
+sent_within setup valid [] h = tt
+sent_within setup valid (e ∷ past) h =
     let node = ltb-true e.node.0 setup.nodes (node_within setup past e h.0) in
-    let step = step_stays setup.nodes (state setup e.node.0 past) e.input (brought past e.input) (knows_table setup past e.node.0 node) in
+    let step = step_stays setup.nodes (state setup e.node.0 past) e.input (brought past e.input) (knows_table setup valid past e.node.0 node) in
     let outs = subst (AllByRecursion (GoesWithin setup.nodes)) (sym h.0.outputs) step.outs in
-    all_append (IsWithin setup.nodes) (sent past) (sent_by e.node e.outputs) (sent_within setup past h.1) (sent_by_within setup.nodes e.node e.outputs node outs)
+    all_append (IsWithin setup.nodes) (sent past) (sent_by e.node e.outputs) (sent_within setup valid past h.1) (sent_by_within setup.nodes e.node e.outputs node outs)
 
 all_at : {A : Type 0} (P : A → Type 0) (xs : List A) (k : ℕ) (x : A) → AllByRecursion P xs → slice_get xs k ≡ Some x → P x
 all_at P [] k x h e = cc
@@ -243,6 +257,6 @@ all_at P (y ∷ ys) zero x h e = let same : y ≡ x = cc in subst P same h.0
 all_at P (y ∷ ys) (suc k) x h e = all_at P ys k x h.1 e
 
 -- each message goes from a node of the table to one
-pub message_within : (setup : SetupState) (past : List Entry) → IsRun setup past → (number : ℕ) (m : Envelope) → message_at past number ≡ Some m → IsWithin setup.nodes m
-message_within setup past h zero m e = cc
-message_within setup past h (suc k) m e = all_at (IsWithin setup.nodes) (sent past) k m (sent_within setup past h) (sym (numbered_from (sent past) k) ∙ e)
+pub message_within : (setup : SetupState) → IsSetup setup → (past : List Entry) → IsRun setup past → (number : ℕ) (m : Envelope) → message_at past number ≡ Some m → IsWithin setup.nodes m
+message_within setup valid past h zero m e = cc
+message_within setup valid past h (suc k) m e = all_at (IsWithin setup.nodes) (sent past) k m (sent_within setup valid past h) (sym (numbered_from (sent past) k) ∙ e)

@@ -1,11 +1,13 @@
 //! What holds of every run.
-ghost use Rattle.std.specs.Prelude.{◌≡◌, ◌≢◌, ◌↔◌, ◌≤◌, ◌<◌, ◌==◌, ℕ, List, Some, IsTrue, false};
-ghost use Rattle.contract_types.specs.Setup.{SetupState};
+ghost use Rattle.std.specs.Prelude.{◌≡◌, ◌≤◌, ◌<◌, ◌&&◌, ℕ, List, Some, IsTrue, false};
+ghost use Rattle.std.specs.List.{list_any};
+ghost use Rattle.contract_types.specs.Setup.{SetupState, IsSetup};
 ghost use Rattle.register_laws.specs.declared.operation.OpId.{OpId};
 ghost use Rattle.contract_types.specs.declared.counts.Counts.{Counts};
 ghost use Rattle.exec_types.specs.declared.outcome.Outcome.TheVariants.{NotServing, NoMajority};
+ghost use Rattle.store_api.specs.Rows.{has_key};
 ghost use Rattle.node_core.specs.declared.journal.Entry.{Entry};
-ghost use Rattle.node_core.specs.Step.{serves};
+ghost use Rattle.node_core.specs.Step.{is_led, serves};
 ghost use Rattle.world_core.specs.declared.envelope.Envelope.{Envelope};
 ghost use Rattle.world_core.specs.Run.{IsRun, is_requested, message_at, state};
 ghost use Rattle.world_core.specs.Story.{IsRegisterStory, story, answer, is_answered};
@@ -16,22 +18,22 @@ ghost use Rattle.write_dispatch.specs.Dispatch.{are_majorities};
 
 /// In every run, each key's story is a register story.
 pub fn stories_of_runs()
-    ensures { (setup : SetupState) (past : List Entry) → IsRun setup past
-        → (key : List ℕ) → IsRegisterStory past key (story past key) }
+    ensures { (setup : SetupState) → IsSetup setup → (past : List Entry) → IsRun setup past
+        → (key : List ℕ) → IsRegisterStory setup past key (story setup past key) }
 {}
 
 /// In every run, "not serving" is answered exactly where the node that was asked did not serve the key as it took the
 /// request.
 pub fn refusals_of_runs()
-    ensures only { (setup : SetupState) (past : List Entry) → IsRun setup past
+    ensures only { (setup : SetupState) → IsSetup setup → (past : List Entry) → IsRun setup past
         → (op : OpId) → answer past op ≡ Some NotServing → IsNotServed setup past op }
-    ensures always { (setup : SetupState) (past : List Entry) → IsRun setup past
+    ensures always { (setup : SetupState) → IsSetup setup → (past : List Entry) → IsRun setup past
         → (op : OpId) → IsNotServed setup past op → answer past op ≡ Some NotServing }
 {}
 
 /// In every run, an operation that was answered was requested.
 pub fn answers_of_runs()
-    ensures { (setup : SetupState) (past : List Entry) → IsRun setup past
+    ensures { (setup : SetupState) → IsSetup setup → (past : List Entry) → IsRun setup past
         → (op : OpId) → IsTrue (is_answered past op) → IsTrue (is_requested past op) }
 {}
 
@@ -49,16 +51,16 @@ pub fn single_answers_of_runs()
     ensures { (setup : SetupState) (past : List Entry) → IsRun setup past → (op : OpId) → answers_to past op ≤ 1 }
 {}
 
-/// In every run, node 0 serves every key, and no other node serves any.
+/// In every run, a node serves exactly the keys of the shards that have it as their primary.
 pub fn serving_of_runs()
-    ensures { (setup : SetupState) (past : List Entry) → IsRun setup past
-        → (n : ℕ) (key : List ℕ) → serves (state setup n past) key ≡ (n == 0) }
+    ensures { (setup : SetupState) → IsSetup setup → (past : List Entry) → IsRun setup past
+        → (n : ℕ) (key : List ℕ) → serves (state setup n past) key ≡ list_any (λ s. is_led n s && has_key s.region setup.hashes key) setup.shards }
 {}
 
 /// In every run, each message goes from a node of the table to a node of the table.
 pub fn messages_of_runs()
-    ensures from { (setup : SetupState) (past : List Entry) → IsRun setup past
+    ensures from { (setup : SetupState) → IsSetup setup → (past : List Entry) → IsRun setup past
         → (number : ℕ) (message : Envelope) → message_at past number ≡ Some message → message.from.0 < setup.nodes }
-    ensures to { (setup : SetupState) (past : List Entry) → IsRun setup past
+    ensures to { (setup : SetupState) → IsSetup setup → (past : List Entry) → IsRun setup past
         → (number : ℕ) (message : Envelope) → message_at past number ≡ Some message → message.to.0 < setup.nodes }
 {}
