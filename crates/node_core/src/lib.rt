@@ -11,3 +11,5 @@ pub mod beginning;
 pub mod journal;
 pub mod node;
 pub mod rows;
+#[cfg(test)]
+mod tests;

@@ -1,0 +1,118 @@
+//! A table with a shard for each of two nodes, and its nodes alone.
+use crate::{Brought, Node};
+use contract_types::{Setup, ShardConfig, TableConfig};
+use exec_types::{Input, Message, Outcome, Output, Outputs};
+use region_map::{Key, NodeId, NodeSet, Region};
+use register_laws::{Op, OpId, Value};
+use std::alloc::Global;
+use std::test::Fail;
+
+fn key(alloc: Global, text: &str) -> Result<Key, Fail> {
+    let bytes = Vec::from_slice(alloc, text.as_bytes())?;
+    Ok(Key::new(bytes)?)
+}
+
+/// A shard that both nodes keep.
+fn shard(from: Option<Key>, to: Option<Key>, primary: u8) -> ShardConfig {
+    let both = NodeSet::empty().with(NodeId(0)).with(NodeId(1));
+    ShardConfig {
+        region: Region {
+            hash_from: 0,
+            hash_to: 1,
+            from,
+            to,
+        },
+        replicas: both,
+        voters: both,
+        primary: NodeId(primary),
+    }
+}
+
+/// Node 0 is the primary of the keys below m, and node 1 of the others.
+fn setup(alloc: Global) -> Result<Setup, Fail> {
+    let low = shard(None, Some(key(alloc, "m")?), 0);
+    let high = shard(Some(key(alloc, "m")?), None, 1);
+    let shards = vec![in alloc; low, high]?;
+    let config = TableConfig::new(alloc, 2, 1, shards)?;
+    Ok(Setup::new(config))
+}
+
+fn put(alloc: Global, op: u64, text: &str) -> Result<Input, Fail> {
+    let value = Vec::from_slice(alloc, b"x")?;
+    Ok(Input::Request {
+        op: OpId(op),
+        key: key(alloc, text)?,
+        what: Op::Put(Value::new(value)?),
+    })
+}
+
+/// One output in words.
+fn said(alloc: Global, output: &Output) -> Result<String, Fail> {
+    let text = match output {
+        Output::Message { to, message } => match message {
+            Message::Stream(stream) => format!(in alloc; "part {} to {}", stream.number, to.0)?,
+            Message::Got(got) => format!(in alloc; "got {} to {}", got.upto, to.0)?,
+        },
+        Output::Dispatched {
+            branch,
+            timestamp,
+            ..
+        } => format!(in alloc; "{branch}:{timestamp}")?,
+        Output::Answer { outcome, .. } => match outcome {
+            Outcome::Done {
+                branch,
+                timestamp,
+                ..
+            } => format!(in alloc; "done {branch}:{timestamp}")?,
+            Outcome::NotServing => format!(in alloc; "not serving")?,
+            Outcome::NoMajority(_) => format!(in alloc; "no majority")?,
+        },
+    };
+    Ok(text)
+}
+
+/// What a step gave, in words.
+fn told(alloc: Global, outputs: &Outputs) -> Result<String, Fail> {
+    let mut text = String::new(alloc);
+    for output in outputs.as_slice() {
+        let more = said(alloc, output)?;
+        text.push_str(more.as_str())?;
+        text.push_str(", ")?;
+    }
+    Ok(text)
+}
+
+/// The first message that a step of a node gave.
+fn first(alloc: Global, from: u8, outputs: &Outputs) -> Result<Option<Brought>, Fail> {
+    for output in outputs.as_slice() {
+        if let Output::Message { message, .. } = output {
+            return Ok(Some(Brought {
+                from: NodeId(from),
+                message: message.copy(alloc)?,
+            }));
+        }
+    }
+    Ok(None)
+}
+
+#[test]
+fn each_node_serves_its_own_shard(rt: HostRuntime) -> Result<(), Fail> {
+    let alloc = rt.alloc();
+    let setup = setup(alloc)?;
+    let zero = Node::begin(alloc, &setup, NodeId(0))?;
+    let one = Node::begin(alloc, &setup, NodeId(1))?;
+    let low = key(alloc, "a")?;
+    assert!(rt; zero.serving(&low) && !one.serving(&low));
+    let deliver = Input::Deliver { message: 1 };
+    let (zero, refused) = zero.step(alloc, &put(alloc, 1, "z")?, None)?;
+    assert!(rt; told(alloc, &refused)?.as_str() == "not serving, ");
+    let (zero, asked) = zero.step(alloc, &put(alloc, 2, "a")?, None)?;
+    assert!(rt; told(alloc, &asked)?.as_str() == "part 2 to 1, 0.1.0:1, ");
+    let (one, taken) = one.step(alloc, &deliver, first(alloc, 0, &asked)?)?;
+    assert!(rt; told(alloc, &taken)?.as_str() == "got 2 to 0, ");
+    let (_zero, done) = zero.step(alloc, &deliver, first(alloc, 1, &taken)?)?;
+    assert!(rt; told(alloc, &done)?.as_str() == "done 0.1.0:1, ");
+    let (_one, other) = one.step(alloc, &put(alloc, 3, "z")?, None)?;
+    assert!(rt; told(alloc, &other)?.as_str() == "part 2 to 0, 1.1.1:1, ");
+    Ok(())
+}
