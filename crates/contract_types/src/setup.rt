@@ -1,7 +1,6 @@
 //! What a table begins with.
 ghost use Rattle.std.specs.Prelude.{◌≡◌, ◌<◌, IsTrue, IfOk};
-ghost use Rattle.contract_types.specs.Configs.{IsConfig};
-ghost use Rattle.contract_types.specs.Setup.{is_setup, whole};
+ghost use Rattle.contract_types.specs.Setup.{IsSetup, is_setup, whole};
 
 use crate::TableConfig;
 use memory::OutOfMemory;
@@ -63,7 +62,7 @@ impl Setup {
     /// The configuration.
     pub fn config(&self) -> &TableConfig
         ensures value { result.now ≡ self.now }
-        ensures config { IsConfig self.now }
+        ensures setup { IsSetup self.now }
     {
         let _nodes = self.config.nodes();
         &self.config

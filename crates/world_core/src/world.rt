@@ -1,5 +1,6 @@
 //! All nodes of a table, and the network between them.
 ghost use Rattle.std.specs.Prelude.{◌≡◌, ◌∷◌, ◌++◌, ◌⊎◌, ◌↔◌, [], Some, None, OnOk, OnErr, IfOk, IfErr, IsErrOf, length};
+ghost use Rattle.contract_types.specs.Setup.{IsSetup};
 ghost use Rattle.node_core.specs.declared.journal.Entry.{Entry};
 ghost use Rattle.world_core.specs.Run.{IsRun, message_at, entry_of};
 ghost use Rattle.world_core.specs.Waiting.{waiting};
@@ -49,9 +50,10 @@ impl World {
         ensures { IfOk result (λ world. world ≡ record { setup = setup; past = []; lost = []; ended = None }) }
     {
         let nodes = begin_nodes(alloc, &setup)?;
+        let journal = Journal::begin(alloc, setup.copy(alloc)?);
         Ok(World {
             setup,
-            journal: Journal::begin(alloc, setup),
+            journal,
             nodes,
             sent: Vec::new(alloc),
             lost: Vec::new(alloc),
@@ -128,25 +130,29 @@ impl World {
     }
 
     /// What the table began with.
-    pub fn setup(&self) -> Setup
-        ensures { result ≡ self.now.setup }
+    pub fn setup(&self) -> &Setup
+        ensures { result.now ≡ self.now.setup }
     {
-        self.setup
+        &self.setup
     }
 
-    /// The steps of all nodes so far, which are a run.
+    /// The steps of all nodes so far, which are a run of what a table may begin with.
     pub fn journal(&self) -> &Journal
         ensures value { result.now ≡ record { setup = Some self.now.setup; past = self.now.past } }
+        ensures setup { IsSetup self.now.setup }
         ensures run { IsRun self.now.setup self.now.past }
     {
+        let _config = self.setup.config();
         &self.journal
     }
 
-    /// The steps of all nodes, which are a run.
+    /// The steps of all nodes, which are a run of what a table may begin with.
     pub fn into_journal(self) -> Journal
         ensures value { result ≡ record { setup = Some self.setup; past = self.past } }
+        ensures setup { IsSetup self.setup }
         ensures run { IsRun self.setup self.past }
     {
+        let _config = self.setup.config();
         self.journal
     }
 }
