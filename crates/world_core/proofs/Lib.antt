@@ -12,6 +12,8 @@ pub mod ShardRoles
 pub mod Single
 pub mod States
 pub mod Steps
+pub mod StoredMoves
+pub mod StoredPaths
 pub mod Table
 pub mod Told
 pub mod Waits
