@@ -14,6 +14,9 @@ pub mod States
 pub mod Steps
 pub mod StoredMoves
 pub mod StoredPaths
+pub mod StoredRuns
+pub mod StoredSetups
+pub mod StoredSteps
 pub mod Table
 pub mod Told
 pub mod Waits

@@ -55,6 +55,11 @@ IsReachedBy ps (Some branch) at = at ≤ taken ps branch
 abbrev pub IsReached : List Point → Version → Type 0
 IsReached ps v = IsReachedBy ps v.branch v.timestamp
 
+-- at timestamp 0 each version is
+pub reached_zero : (branch : Option Id) (at : ℕ) → at ≡ 0 → IsReached [] (record { branch = branch; timestamp = at })
+reached_zero None at e = tt
+reached_zero (Some branch) at e = omega (arith, e)
+
 -- ---- one more point, with the next timestamp of its branch
 
 pub taken-own : (ps : List Point) (q : Point) → taken (ps ++ q ∷ []) q.branch ≡ taken ps q.branch + 1
@@ -80,7 +85,7 @@ below-more : (ps : List Point) (q : Point) (rs : List Point) → AllByRecursion 
 below-more ps q [] h = tt
 below-more ps q (r ∷ rs) h = (let more = taken-more ps q r.branch in let old = h.0 in omega (arith, old, more), below-more ps q rs h.1)
 
-all_push : {A : Type 0} (P : A → Type 0) (xs : List A) (x : A) → AllByRecursion P xs → P x → AllByRecursion P (xs ++ x ∷ [])
+pub all_push : {A : Type 0} (P : A → Type 0) (xs : List A) (x : A) → AllByRecursion P xs → P x → AllByRecursion P (xs ++ x ∷ [])
 all_push P [] x all p = (p, tt)
 all_push P (y ∷ ys) x all p = (all.0, all_push P ys x all.1 p)
 
@@ -105,7 +110,7 @@ path_at-more ps q key v next h =
     ∙ append-nil (path_at ps key v)
 
 -- tests that agree on each member
-filter-same : {A : Type 0} (P : A → Type 0) (f g : A → Bool) → ((x : A) → P x → f x ≡ g x) → (xs : List A) → AllByRecursion P xs → filter f xs ≡ filter g xs
+pub filter-same : {A : Type 0} (P : A → Type 0) (f g : A → Bool) → ((x : A) → P x → f x ≡ g x) → (xs : List A) → AllByRecursion P xs → filter f xs ≡ filter g xs
 filter-same P f g same [] h = refl
 filter-same P f g same (x ∷ xs) h = λ i. cond (same x h.0 i) (x ∷ filter-same P f g same xs h.1 i) (filter-same P f g same xs h.1 i)
 
