@@ -145,8 +145,7 @@ path_at-next ps q key h next =
 
 -- ---- what a step does to the points of a journal
 
--- the points after a step of a node: those versions that were reached keep their paths, and only a branch of the node
--- has more
+-- the points after a step of a node: versions that were reached keep their paths, and no branch of another node has more
 pub record Grows (n : ℕ) (ps more : List Point) : Type 0 where
   pub paths : (key : List ℕ) (v : Version) → IsReached ps v → path_at more key v ≡ path_at ps key v
   pub reached : (v : Version) → IsReached ps v → IsReached more v

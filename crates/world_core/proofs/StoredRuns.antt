@@ -193,8 +193,8 @@ request_step_kept setup past n s op key what before h =
     subst (λ l. StepKept setup (points past) (points past ++ l) n (end_step step)) (sym (points_in-end what r.outs r.executions)) (end_kept setup (points past) more n step kept)
 
 -- a step without a point
-pointless : (setup : SetupState) (ps : List Point) (n : ℕ) (step : Stepped) → StepKept setup ps ps n step → StepKept setup ps (ps ++ []) n (end_step step)
-pointless setup ps n step h = subst (λ l. StepKept setup ps l n (end_step step)) (sym (append-nil ps)) (end_kept setup ps ps n step h)
+without_point : (setup : SetupState) (ps : List Point) (n : ℕ) (step : Stepped) → StepKept setup ps ps n step → StepKept setup ps (ps ++ []) n (end_step step)
+without_point setup ps n step h = subst (λ l. StepKept setup ps l n (end_step step)) (sym (append-nil ps)) (end_kept setup ps ps n step h)
 
 step_kept : (setup : SetupState) (past : List Entry) (n : ℕ) (s : NodeState) (input : Input) (b : Option Brought) → Before setup past n s → StateKept setup (points past) n s → BroughtTells (points past) b
     → StepKept setup (points past) (points past ++ points_of input (node_step s input b).outs) n (node_step s input b)
@@ -202,8 +202,8 @@ step_kept setup past n s (Request op key what) b before h t =
     let shape : record s { setup = setup } ≡ s = λ i. record s { setup = sym before.facts.begun i } in
     subst (λ (v : NodeState). StepKept setup (points past) (points past ++ points_in what (end_step (request_row v op key what)).outs) n (end_step (request_row v op key what))) shape
     (request_step_kept setup past n s op key what before h)
-step_kept setup past n s (GiveUp op) b before h t = pointless setup (points past) n (give_up s op) (give_up_kept setup (points past) n s op h)
-step_kept setup past n s (Deliver number) b before h t = pointless setup (points past) n (brought_row s b) (brought_kept setup past n s b before h t)
+step_kept setup past n s (GiveUp op) b before h t = without_point setup (points past) n (give_up s op) (give_up_kept setup (points past) n s op h)
+step_kept setup past n s (Deliver number) b before h t = without_point setup (points past) n (brought_row s b) (brought_kept setup past n s b before h t)
 
 -- ---- runs
 
