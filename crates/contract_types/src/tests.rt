@@ -1,7 +1,13 @@
 //! The worked configurations, and what a table begins with.
-use crate::{ConfigRefused, IdSource, ShardConfig, TableConfig, TableState};
-use region_map::{Id, Key, NodeId, NodeSet, Region};
+use crate::{
+    Ack, Change, ConfigRefused, Contracts, IdSource, Ids, Setup, ShardConfig, TableConfig,
+    TableState, first_contract, setup_id,
+};
+use branch_history::Version;
+use raft_vote::RaftEntry;
+use region_map::{Id, Key, NodeId, NodeSet, Region, RegionMap};
 use std::alloc::Global;
+use std::fmt::Debug;
 use std::test::Fail;
 
 fn bound(alloc: Global, text: &str) -> Result<Option<Key>, Fail> {
@@ -87,6 +93,87 @@ fn a_table_begins_with_a_contract_and_a_branch_for_each_shard(rt: HostRuntime) -
     };
     assert!(rt; state.current().get(&key) == Some(&branch));
     assert!(rt; state.history().birth(&branch).is_some());
+    Ok(())
+}
+
+/// Whether a value and a copy of it are written alike.
+fn are_alike<T: Debug>(alloc: Global, value: &T, copy: &T) -> Result<bool, Fail> {
+    let first = format!(in alloc; "{value:?}")?;
+    let second = format!(in alloc; "{copy:?}")?;
+    Ok(first == second)
+}
+
+/// The region of all keys, with one hash.
+fn all_keys() -> Region {
+    Region {
+        hash_from: 0,
+        hash_to: 1,
+        from: None,
+        to: None,
+    }
+}
+
+fn branches(alloc: Global, id: Id) -> Result<RegionMap<Id>, Fail> {
+    Ok(RegionMap::constant(alloc, all_keys(), 1, id)?)
+}
+
+fn versions(alloc: Global) -> Result<RegionMap<Version>, Fail> {
+    Ok(RegionMap::constant(alloc, all_keys(), 1, Version::zero())?)
+}
+
+#[test]
+fn a_change_is_copied(rt: HostRuntime) -> Result<(), Fail> {
+    let alloc = rt.alloc();
+    let setup = Setup::whole(alloc, 2, 1)?;
+    assert!(rt; setup.nodes() == 2 && setup.hashes() == 1 && setup.config().shards().len() == 1);
+    let other = setup.copy(alloc)?;
+    assert!(rt; are_alike(alloc, &setup, &other)?);
+    let id = setup_id(0, NodeId(1));
+    let removed = Ids::from(vec![in alloc; id]?);
+    let mut added = Contracts::new(alloc);
+    added.push(first_contract(alloc, 0, &setup.config().shards()[0])?)?;
+    assert!(rt; removed.copy(alloc)?.as_slice() == [id].as_slice());
+    assert!(rt; added.as_slice().len() == 1 && are_alike(alloc, &added, &added.copy(alloc)?)?);
+    let changes = vec![in alloc;
+        Change::Noop,
+        Change::SetConfig(setup.config().copy(alloc)?),
+        Change::NewContracts { removed, added },
+        Change::RegisterBranch {
+            branch: id,
+            region: all_keys(),
+            tenure: 1,
+            maker: NodeId(1),
+            based_on: branches(alloc, id)?,
+            origin: versions(alloc)?,
+        },
+    ]?;
+    for change in &changes {
+        assert!(rt; are_alike(alloc, change, &change.copy(alloc)?)?);
+    }
+    Ok(())
+}
+
+#[test]
+fn an_ack_is_copied(rt: HostRuntime) -> Result<(), Fail> {
+    let alloc = rt.alloc();
+    let branch = setup_id(0, NodeId(1));
+    let acks = vec![in alloc;
+        Ack::NeedBranch {
+            branch,
+            based_on: branches(alloc, branch)?,
+            origin: versions(alloc)?,
+        },
+        Ack::InProgress,
+        Ack::Ready,
+        Ack::NeedPrimary {
+            versions: versions(alloc)?,
+        },
+        Ack::Backfilling,
+        Ack::Streaming,
+    ]?;
+    for ack in &acks {
+        assert!(rt; are_alike(alloc, ack, &ack.copy(alloc)?)?);
+    }
     Ok(())
 }
 
