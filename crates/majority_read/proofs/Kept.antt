@@ -1,5 +1,5 @@
 -- A slab and a queue of its keys, after one more read and after one is taken.
-use Rattle.std.proofs.Common.{◌≡◌, ◌≢◌, ℕ, zero, suc, ◌+◌, ◌<◌, ◌==◌, Bool, true, false, cond, not, ◌&&◌, ◌||◌, nat_lt, List, [], ◌∷◌, ◌++◌, length, drop, get_or, remove, position, Option, Some, None, is_some, OnSome, refl, sym, ap, ◌∙◌, subst, arith, length-append}
+use Rattle.std.proofs.Common.{◌≡◌, ◌≢◌, ℕ, zero, suc, ◌+◌, ◌<◌, ◌==◌, Bool, true, false, cond, not, ◌&&◌, ◌||◌, nat_lt, List, [], ◌∷◌, ◌++◌, length, drop, get_or, remove, position, Option, Some, None, option_map, is_some, OnSome, refl, sym, ap, ◌∙◌, subst, arith, length-append}
 use Rattle.std.specs.List.{position_or_len}
 use Rattle.std.proofs.lemmas.Bool.{and_parts, and_from, or_parts, or_from, false≢true, not_from_false, eqb-true, eqb-false, ltb-true, lt-ltb}
 use Rattle.std.proofs.lemmas.Bool.Decides.{nat_tests}
@@ -7,9 +7,9 @@ use Rattle.std.proofs.lemmas.List.Edits.{length-remove}
 use Rattle.slab.specs.Slab.{Slab, get, slab_len, Updates}
 use Rattle.register_laws.specs.declared.operation.OpId.{OpId}
 use Rattle.majority_read.specs.declared.waiting_read.WaitingRead.{WaitingRead}
-use Rattle.majority_read.specs.Reads.{all_below, is_rising, has_read_of, without_read_of}
+use Rattle.majority_read.specs.Reads.{all_below, is_rising, has_read_of, sync_of, without_read_of}
 use Rattle.majority_read.specs.Keys.{with_first, reads_at, has_key, are_keys, IsKept, is_of, is_key_of}
-use Rattle.majority_read.proofs.Order.{is_rising-push, is_rising-without, without-none}
+use Rattle.majority_read.proofs.Order.{is_rising-push, is_rising-without, without-none, sync-none}
 
 abbrev Kept : Type 0
 Kept = Slab WaitingRead
@@ -216,18 +216,42 @@ has-place op s (k ∷ ks) =
       | false ↦ has-place op s ks ∙ lt-more (place op s ks) (length ks)
     ]
 
+at_of : Option WaitingRead → Option ℕ
+at_of o = option_map (λ (r : WaitingRead). r.at) o
+
+sync-with_first : (op : OpId) (o : Option WaitingRead) (rs : List WaitingRead) → is_of op o ≡ true → sync_of op (with_first o rs) ≡ at_of o
+unfolding at_of
+sync-with_first op None rs h = absurd (false≢true h)
+sync-with_first op (Some r) rs h = rw h refl
+
+sync-with_other : (op : OpId) (o : Option WaitingRead) (rs : List WaitingRead) → is_of op o ≡ false → sync_of op (with_first o rs) ≡ sync_of op rs
+sync-with_other op None rs h = refl
+sync-with_other op (Some r) rs h = rw h refl
+
+sync-place : (op : OpId) (s : Kept) (ks : List ℕ) (d : ℕ) → place op s ks < length ks → sync_of op (reads_at s ks) ≡ at_of (get s (get_or ks (place op s ks) d))
+unfolding place
+sync-place op s [] d l = absurd (omega arith)
+sync-place op s (k ∷ ks) d l =
+    let e : 1 + place op s ks ≡ suc (place op s ks) = omega arith in
+    elim (is_key_of s op k) as (λ c. is_key_of s op k ≡ c → cond (not c) (1 + place op s ks) 0 < length (k ∷ ks) → sync_of op (reads_at s (k ∷ ks)) ≡ at_of (get s (get_or (k ∷ ks) (cond (not c) (1 + place op s ks) 0) d))) [
+      | true ↦ λ h _. sync-with_first op (get s k) (reads_at s ks) h
+      | false ↦ λ h m.
+          sync-with_other op (get s k) (reads_at s ks) h ∙ sync-place op s ks d (omega arith) ∙ ap (λ n. at_of (get s (get_or (k ∷ ks) n d))) (sym e)
+    ] refl l
+
 -- what a place found by the operation says
 pub record IsPlace (op : OpId) (s : Kept) (ks : List ℕ) (i : ℕ) : Type 0 where
   pub within : i < length ks
   pub found : has_read_of op (reads_at s ks) ≡ true
   pub left : reads_at s (remove ks i) ≡ without_read_of op (reads_at s ks)
+  pub sync : (d : ℕ) → sync_of op (reads_at s ks) ≡ option_map (λ (r : WaitingRead). r.at) (get s (get_or ks i d))
 
 pub place_found : (op : OpId) (s : Kept) (ks : List ℕ) (i : ℕ) → position (is_key_of s op) ks ≡ Some i → IsPlace op s ks i
-unfolding place
+unfolding place at_of
 place_found op s ks i e =
     elim (nat_lt (place op s ks) (length ks)) as (λ c. nat_lt (place op s ks) (length ks) ≡ c → cond c (Some (place op s ks)) None ≡ Some i → IsPlace op s ks i) [
       | true ↦ λ l h. let same : place op s ks ≡ i = cc in
-          subst (λ n. IsPlace op s ks n) same (record { within = ltb-true _ _ l; found = has-place op s ks ∙ l; left = remove-place op s ks })
+          subst (λ n. IsPlace op s ks n) same (record { within = ltb-true _ _ l; found = has-place op s ks ∙ l; left = remove-place op s ks; sync = λ d. sync-place op s ks d (ltb-true _ _ l) })
       | false ↦ λ l h. absurd (cc)
     ] refl e
 
@@ -275,8 +299,9 @@ dropped op s t ks i d kept e updates len =
 pub record IsAbsent (op : OpId) (rs : List WaitingRead) : Type 0 where
   pub none : has_read_of op rs ≡ false
   pub same : without_read_of op rs ≡ rs
+  pub sync : sync_of op rs ≡ None
 
 pub absent : (op : OpId) (s : Kept) (ks : List ℕ) → position (is_key_of s op) ks ≡ None → IsAbsent op (reads_at s ks)
 absent op s ks e =
     let none = place_missing op s ks e in
-    record { none = none; same = without-none op (reads_at s ks) none }
+    record { none = none; same = without-none op (reads_at s ks) none; sync = sync-none op (reads_at s ks) none }

@@ -1,9 +1,9 @@
 -- Reads whose timestamps rise.
-use Rattle.std.proofs.Common.{◌≡◌, ℕ, ◌<◌, ◌≤◌, true, false, cond, nat_lt, List, [], ◌∷◌, ◌++◌, refl, ap, arith}
+use Rattle.std.proofs.Common.{◌≡◌, ℕ, ◌<◌, ◌≤◌, true, false, cond, nat_lt, List, [], ◌∷◌, ◌++◌, None, refl, ap, arith}
 use Rattle.std.proofs.lemmas.Bool.{and_parts, and_from, or_parts, ltb-true, lt-ltb, le-leb}
 use Rattle.register_laws.specs.declared.operation.OpId.{OpId}
 use Rattle.majority_read.specs.declared.waiting_read.WaitingRead.{WaitingRead}
-use Rattle.majority_read.specs.Reads.{all_below, all_above, all_from, is_rising, behind_upto, is_read_of, has_read_of, without_read_of}
+use Rattle.majority_read.specs.Reads.{all_below, all_above, all_from, is_rising, behind_upto, is_read_of, has_read_of, sync_of, without_read_of}
 
 all_above-push : (at : ℕ) (rs : List WaitingRead) (r : WaitingRead) → all_above at rs ≡ true → nat_lt at r.at ≡ true → all_above at (rs ++ r ∷ []) ≡ true
 all_above-push at [] r h k = and_from _ _ k refl
@@ -62,3 +62,9 @@ without-none op [] h = refl
 without-none op (q ∷ qs) h =
     let parts = or_parts (is_read_of op q) (has_read_of op qs) h in
     rw parts.0 (ap (λ ys. q ∷ ys) (without-none op qs parts.1))
+
+pub sync-none : (op : OpId) (rs : List WaitingRead) → has_read_of op rs ≡ false → sync_of op rs ≡ None
+sync-none op [] h = refl
+sync-none op (q ∷ qs) h =
+    let parts = or_parts (is_read_of op q) (has_read_of op qs) h in
+    rw parts.0 (sync-none op qs parts.1)

@@ -41,6 +41,11 @@ abbrev pub has_read_of : OpId → List WaitingRead → Bool
 has_read_of op [] = false
 has_read_of op (r ∷ rs) = is_read_of op r || has_read_of op rs
 
+-- the timestamp of the sync of the first read of the operation
+abbrev pub sync_of : OpId → List WaitingRead → Option ℕ
+sync_of op [] = None
+sync_of op (r ∷ rs) = if is_read_of op r then Some r.at else sync_of op rs
+
 -- what waits without the first read of the operation
 abbrev pub without_read_of : OpId → List WaitingRead → List WaitingRead
 without_read_of op [] = []

@@ -2,7 +2,7 @@
 ghost use Rattle.std.specs.Prelude.{◌≡◌, ◌++◌, ◌∷◌, [], option_map, position, IsTrue, IfSome, IfNone, OnOk, OnErr};
 ghost use Rattle.slab.specs.Slab.{get, ContainsKey};
 ghost use Rattle.majority_read.specs.declared.waiting_read.WaitingRead.{WaitingRead};
-ghost use Rattle.majority_read.specs.Reads.{all_below, all_above, all_from, is_rising, is_read_of, first_upto, behind_upto, has_read_of, without_read_of};
+ghost use Rattle.majority_read.specs.Reads.{all_below, all_above, all_from, is_rising, is_read_of, first_upto, behind_upto, has_read_of, sync_of, without_read_of};
 ghost use Rattle.majority_read.specs.Keys.{is_key_of};
 
 use crate::WaitingRead;
@@ -87,6 +87,14 @@ impl Reads {
         let _ = self.keys.pop_front();
         let read = self.reads.remove(key);
         Some((read.op, read.at, read.value))
+    }
+
+    /// The timestamp of the sync of the least read of an operation, where one waits.
+    pub fn sync_of(&self, op: OpId) -> Option<u64>
+        ensures { result ≡ sync_of op self.now }
+    {
+        let place = place_of(&self.reads, &self.keys, op)?;
+        Some(self.reads[self.keys[place]].at)
     }
 
     /// Drops the least read of an operation, and answers whether there was one.

@@ -38,8 +38,11 @@ fn the_least_read_of_an_operation_is_dropped(rt: HostRuntime) -> Result<(), Fail
     reads.ask(OpId(1), 1, None)?;
     reads.ask(OpId(2), 2, None)?;
     reads.ask(OpId(1), 3, None)?;
+    assert_eq!(rt; reads.sync_of(OpId(1)), Some(1));
+    assert_eq!(rt; reads.sync_of(OpId(9)), None);
     assert!(rt; !reads.drop_read(OpId(9)));
     assert!(rt; reads.drop_read(OpId(1)));
+    assert_eq!(rt; reads.sync_of(OpId(1)), Some(3));
     reads.ask(OpId(4), 4, value(rt.alloc(), "")?)?;
     assert_eq!(rt; reads.take_upto(9), Some((OpId(2), 2, None)));
     assert_eq!(rt; reads.take_upto(9), Some((OpId(1), 3, None)));

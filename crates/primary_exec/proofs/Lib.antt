@@ -1,3 +1,4 @@
 pub mod Sound
 pub mod Decides
 pub mod Joins
+pub mod Values

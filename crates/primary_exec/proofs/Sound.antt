@@ -20,12 +20,19 @@ below-without_op at (d ∷ ds) op h =
     cond_both (is_of op d.op) ds (d ∷ without_op ds op) (λ (l : List Decided). all_below at l ≡ true)
     (λ _. both.1) (λ _. and_from (nat_lt d.at at) (all_below at (without_op ds op)) both.0 (below-without_op at ds op both.1))
 
-below-push : (at : ℕ) (ds : List Decided) (d : Decided) → all_below at ds ≡ true → d.at ≡ at → all_below (at + 1) (ds ++ d ∷ []) ≡ true
+pub below-push : (at : ℕ) (ds : List Decided) (d : Decided) → all_below at ds ≡ true → d.at ≡ at → all_below (at + 1) (ds ++ d ∷ []) ≡ true
 below-push at [] d h e = and_from (nat_lt d.at (at + 1)) true (lt-ltb d.at (at + 1) (omega arith)) refl
 below-push at (x ∷ ds) d h e =
     let both = and_parts (nat_lt x.at at) (all_below at ds) h in
     let below : x.at < at = ltb-true x.at at both.0 in
     and_from (nat_lt x.at (at + 1)) (all_below (at + 1) (ds ++ d ∷ [])) (lt-ltb x.at (at + 1) (omega arith)) (below-push at ds d both.1 e)
+
+pub below-next : (at : ℕ) (ds : List Decided) → all_below at ds ≡ true → all_below (at + 1) ds ≡ true
+below-next at [] h = refl
+below-next at (x ∷ ds) h =
+    let both = and_parts (nat_lt x.at at) (all_below at ds) h in
+    let below : x.at < at = ltb-true x.at at both.0 in
+    and_from (nat_lt x.at (at + 1)) (all_below (at + 1) ds) (lt-ltb x.at (at + 1) (omega arith)) (below-next at ds both.1)
 
 pub below-behind_first : (at : ℕ) (acks : Acks) (c : Contract) (me : ℕ) (ds : List Decided) → all_below at ds ≡ true → all_below at (behind_first acks c me ds) ≡ true
 below-behind_first at acks c me [] h = refl
@@ -53,11 +60,11 @@ acked_bounded from name upto (x ∷ xs) h =
 pub IsSound-below : (last : ℕ) (waiting rest : List Decided) (sessions : List Session) → IsSound last waiting sessions → ((at : ℕ) → all_below at waiting ≡ true → all_below at rest ≡ true) → IsSound last rest sessions
 IsSound-below last waiting rest sessions h f = record { numbers = h.numbers; waiting_below = f (last + 1) h.waiting_below; parts = h.parts }
 
-pub IsSound-sent : (last : ℕ) (waiting : List Decided) (sessions : List Session) (d : Decided) → IsSound last waiting sessions → last + 1 < 2 ^ 62 → parts_end_numbers sessions ≡ false → d.at ≡ last + 1 → IsSound (last + 1) (waiting ++ d ∷ []) (map with_sent (filter has_room sessions))
-IsSound-sent last waiting sessions d h fits parts at =
+pub IsSound-sent : (last : ℕ) (waiting : List Decided) (sessions : List Session) → last < 2 ^ 62 → all_below (last + 1) waiting ≡ true → parts_end_numbers sessions ≡ false → IsSound last waiting (map with_sent (filter has_room sessions))
+IsSound-sent last waiting sessions fits below parts =
     record {
       numbers = fits;
-      waiting_below = below-push (last + 1) waiting d h.waiting_below at;
+      waiting_below = below;
       parts = All-from_recursion IsBounded (map with_sent (filter has_room sessions)) (sent_bounded sessions parts);
     }
 

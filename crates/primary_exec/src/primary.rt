@@ -5,9 +5,11 @@ ghost use Rattle.primary_exec.specs.Execution.{begun, joined, setup_execution, d
 
 use crate::answers::{answer_decided, answer_given_up};
 use crate::effect::effect;
+use crate::reads::dispatch;
 use crate::session::{Session, acknowledge, ends_numbers, is_live, send};
 use contract_types::{Contract, setup_id};
 use exec_types::{Got, Output, Outputs, SessionName};
+use majority_read::Reads;
 use memory::OutOfMemory;
 use region_map::{Id, Key, NUMBERS_END, NodeId, StepRefused};
 use register_laws::{Op, OpId};
@@ -25,17 +27,21 @@ pub struct Primary {
     /// The last timestamp that it took.
     last: u64,
     pending: Pending,
+    /// The values of the pending reads.
+    reads: Reads,
     sessions: Vec<Session>,
 }
 
 impl Model for Primary {
+    ghost use Rattle.std.specs.Prelude.{IsTrue};
     ghost use Rattle.primary_exec.specs.Execution.{Execution, IsSound};
+    ghost use Rattle.primary_exec.specs.Reads.{are_reads_of, dispatch_with};
 
     ghost Value = { Execution };
 
-    ghost view = { λ a. record { contract = a.contract; me = a.me; branch = a.branch; last = a.last; dispatch = a.pending; sessions = a.sessions.items } };
+    ghost view = { λ a. record { contract = a.contract; me = a.me; branch = a.branch; last = a.last; dispatch = dispatch_with a.pending a.reads; sessions = a.sessions.items } };
 
-    ghost invariant = { λ a. IsSound a.last a.pending.waiting a.sessions.items };
+    ghost invariant = { λ a. IsSound a.last a.pending.waiting a.sessions.items × IsTrue (are_reads_of a.pending.waiting a.reads) };
 }
 
 impl Primary {
@@ -49,6 +55,7 @@ impl Primary {
             branch,
             last: 0,
             pending: Pending::new(alloc),
+            reads: Reads::new(alloc),
             sessions: Vec::new(alloc),
         }
     }
@@ -129,9 +136,9 @@ impl Primary {
         })?;
         let written = part.effect(alloc)?;
         store.advance(alloc, &self.contract.region, self.branch, at, written)?;
-        self.pending.dispatch(Some(op), at, reply)?;
         self.sessions = sessions;
         self.last = at;
+        dispatch(&mut self.pending, &mut self.reads, op, at, what, reply)?;
         Ok(())
     }
 
@@ -153,7 +160,14 @@ impl Primary {
         ensures execution { OnOk result (self.new ≡ decided self.old) }
         ensures out { OnOk result (out.new ≡ out.old ++ decide_outs self.old) }
     {
-        answer_decided(&mut self.pending, &self.contract, self.me, self.branch, out)?;
+        answer_decided(
+            &mut self.pending,
+            &mut self.reads,
+            &self.contract,
+            self.me,
+            self.branch,
+            out,
+        )?;
         Ok(())
     }
 
@@ -162,7 +176,14 @@ impl Primary {
         ensures execution { OnOk result (self.new ≡ give_up_row self.old op) }
         ensures out { OnOk result (out.new ≡ out.old ++ give_up_outs self.old op) }
     {
-        answer_given_up(&mut self.pending, &self.contract, self.me, op, out)?;
+        answer_given_up(
+            &mut self.pending,
+            &mut self.reads,
+            &self.contract,
+            self.me,
+            op,
+            out,
+        )?;
         Ok(())
     }
 }
