@@ -6,19 +6,20 @@ use Rattle.std.specs.Ordering.{nat_cmp, is_eq}
 use Rattle.std.specs.Cmp.Lexicographic.{slice_cmp, texts_ties}
 use Rattle.std.specs.FinMap.{slice_cmp-IsAntisymmetric, nat_cmp-IsAntisymmetric}
 use Rattle.std.specs.BTreeMap.{get, is_at}
+use Rattle.contract_types.specs.Setup.{SetupState}
 use Rattle.register_laws.specs.declared.operation.Op.{Op}
 use Rattle.register_laws.specs.Register.{State, state_after}
 use Rattle.register_laws.specs.Lists.{told_from}
 use Rattle.exec_types.specs.declared.output.Output.{Output}
 use Rattle.exec_types.specs.declared.output.Output.TheVariants.{Message, Dispatched, Answer}
 use Rattle.node_core.specs.declared.journal.Entry.{Entry}
-use Rattle.world_core.specs.Story.{Point, points, points_in, points_of, same_key, is_on_path, is_shown_point, path, call_of, story}
+use Rattle.world_core.specs.Story.{Point, points, points_in, points_of, same_key, is_on_path, is_shown_point, call_of, story}
 use Rattle.report_text.specs.Report.{told_text, story_line}
 use Rattle.report_text.specs.Stories.{Texts, text_at, told_op, point_text, points_text, text_or_none, line_with, line_by}
 
-pub points_text-append : (past : List Entry) (key : List ℕ) (ps qs : List Point) → points_text past key (ps ++ qs) ≡ points_text past key ps ++ points_text past key qs
-points_text-append past key [] qs = refl
-points_text-append past key (p ∷ ps) qs = ap (λ rest. point_text past key p ++ rest) (points_text-append past key ps qs) ∙ sym (append_assoc (point_text past key p) (points_text past key ps) (points_text past key qs))
+pub points_text-append : (setup : SetupState) (past : List Entry) (key : List ℕ) (ps qs : List Point) → points_text setup past key (ps ++ qs) ≡ points_text setup past key ps ++ points_text setup past key qs
+points_text-append setup past key [] qs = refl
+points_text-append setup past key (p ∷ ps) qs = ap (λ rest. point_text setup past key p ++ rest) (points_text-append setup past key ps qs) ∙ sym (append_assoc (point_text setup past key p) (points_text setup past key ps) (points_text setup past key qs))
 
 pub points_in-cons : (what : Op) (x : Output) (outs : List Output) → points_in what (x ∷ outs) ≡ points_in what (x ∷ []) ++ points_in what outs
 points_in-cons what (Message to message) outs = refl
@@ -26,41 +27,41 @@ points_in-cons what (Dispatched op key branch timestamp) outs = refl
 points_in-cons what (Answer op outcome) outs = refl
 
 -- one output more
-pub tell-more : (past : List Entry) (key : List ℕ) (what : Op) (x : Output) (outs : List Output) (a b : List ℕ) → b ≡ a ++ points_text past key (points_in what (x ∷ [])) → b ++ points_text past key (points_in what outs) ≡ a ++ points_text past key (points_in what (x ∷ outs))
-tell-more past key what x outs a b told =
-    ap (λ front. front ++ points_text past key (points_in what outs)) told
-    ∙ append_assoc a (points_text past key (points_in what (x ∷ []))) (points_text past key (points_in what outs))
-    ∙ ap (λ back. a ++ back) (sym (points_text-append past key (points_in what (x ∷ [])) (points_in what outs)))
-    ∙ ap (λ (ps : List Point). a ++ points_text past key ps) (sym (points_in-cons what x outs))
+pub tell-more : (setup : SetupState) (past : List Entry) (key : List ℕ) (what : Op) (x : Output) (outs : List Output) (a b : List ℕ) → b ≡ a ++ points_text setup past key (points_in what (x ∷ [])) → b ++ points_text setup past key (points_in what outs) ≡ a ++ points_text setup past key (points_in what (x ∷ outs))
+tell-more setup past key what x outs a b told =
+    ap (λ front. front ++ points_text setup past key (points_in what outs)) told
+    ∙ append_assoc a (points_text setup past key (points_in what (x ∷ []))) (points_text setup past key (points_in what outs))
+    ∙ ap (λ back. a ++ back) (sym (points_text-append setup past key (points_in what (x ∷ [])) (points_in what outs)))
+    ∙ ap (λ (ps : List Point). a ++ points_text setup past key ps) (sym (points_in-cons what x outs))
 
 -- one entry more
-pub tell-entry : (past : List Entry) (key : List ℕ) (e : Entry) (before : List Entry) (a b : List ℕ) → a ≡ points_text past key (points before) → b ≡ a ++ points_text past key (points_of e.input e.outputs) → b ≡ points_text past key (points (e ∷ before))
-tell-entry past key e before a b is told =
-    told ∙ ap (λ front. front ++ points_text past key (points_of e.input e.outputs)) is ∙ sym (points_text-append past key (points before) (points_of e.input e.outputs))
+pub tell-entry : (setup : SetupState) (past : List Entry) (key : List ℕ) (e : Entry) (before : List Entry) (a b : List ℕ) → a ≡ points_text setup past key (points before) → b ≡ a ++ points_text setup past key (points_of e.input e.outputs) → b ≡ points_text setup past key (points (e ∷ before))
+tell-entry setup past key e before a b is told =
+    told ∙ ap (λ front. front ++ points_text setup past key (points_of e.input e.outputs)) is ∙ sym (points_text-append setup past key (points before) (points_of e.input e.outputs))
 
 -- a point that lies on the path and is shown is told, and no other
-told-point : (past : List Entry) (key : List ℕ) (s : State) (p : Point) (on shown : Bool) (rest : List Point) (text : List ℕ)
+told-point : (s : State) (p : Point) (on shown : Bool) (rest : List Point) (text : List ℕ)
     → ((s : State) → told_text (told_from s (map call_of rest)) ≡ text)
     → told_text (told_from s (map call_of (cond on (cond shown (p ∷ rest) rest) rest))) ≡ cond (on && shown) (told_op p.op.0) [] ++ text
-told-point past key s p true true rest text same = ap (λ back. told_op p.op.0 ++ back) (same (state_after s p.what))
-told-point past key s p true false rest text same = same s
-told-point past key s p false shown rest text same = same s
+told-point s p true true rest text same = ap (λ back. told_op p.op.0 ++ back) (same (state_after s p.what))
+told-point s p true false rest text same = same s
+told-point s p false shown rest text same = same s
 
 cond-filter : {A : Type 0} (q : A → Bool) (on : Bool) (x : A) (xs : List A) → filter q (cond on (x ∷ xs) xs) ≡ cond on (cond (q x) (x ∷ filter q xs) (filter q xs)) (filter q xs)
 cond-filter q true x xs = refl
 cond-filter q false x xs = refl
 
-pub told-points : (past : List Entry) (key : List ℕ) (s : State) (ps : List Point) → told_text (told_from s (map call_of (filter (is_shown_point past) (filter (is_on_path key) ps)))) ≡ points_text past key ps
-told-points past key s [] = refl
-told-points past key s (p ∷ ps) =
-    ap (λ (qs : List Point). told_text (told_from s (map call_of qs))) (cond-filter (is_shown_point past) (is_on_path key p) p (filter (is_on_path key) ps))
-    ∙ told-point past key s p (is_on_path key p) (is_shown_point past p) (filter (is_shown_point past) (filter (is_on_path key) ps)) (points_text past key ps) (λ t. told-points past key t ps)
+pub told-points : (setup : SetupState) (past : List Entry) (key : List ℕ) (s : State) (ps : List Point) → told_text (told_from s (map call_of (filter (is_shown_point past) (filter (is_on_path setup key) ps)))) ≡ points_text setup past key ps
+told-points setup past key s [] = refl
+told-points setup past key s (p ∷ ps) =
+    ap (λ (qs : List Point). told_text (told_from s (map call_of qs))) (cond-filter (is_shown_point past) (is_on_path setup key p) p (filter (is_on_path setup key) ps))
+    ∙ told-point s p (is_on_path setup key p) (is_shown_point past p) (filter (is_shown_point past) (filter (is_on_path setup key) ps)) (points_text setup past key ps) (λ t. told-points setup past key t ps)
 
 -- lines by texts that are the stories' are the stories' lines
-pub lines-by : (texts : Texts) (past : List Entry) → ((key : List ℕ) → text_at texts key ≡ told_text (story past key)) → (keys : List (List ℕ)) → map (line_by texts) keys ≡ map (story_line past) keys
-lines-by texts past same [] = refl
-lines-by texts past same (key ∷ keys) =
-    ap (λ told. line_with key told ∷ map (line_by texts) keys) (same key) ∙ ap (λ (rest : List (List ℕ)). story_line past key ∷ rest) (lines-by texts past same keys)
+pub lines-by : (texts : Texts) (setup : SetupState) (past : List Entry) → ((key : List ℕ) → text_at texts key ≡ told_text (story setup past key)) → (keys : List (List ℕ)) → map (line_by texts) keys ≡ map (story_line setup past) keys
+lines-by texts setup past same [] = refl
+lines-by texts setup past same (key ∷ keys) =
+    ap (λ told. line_with key told ∷ map (line_by texts) keys) (same key) ∙ ap (λ (rest : List (List ℕ)). story_line setup past key ∷ rest) (lines-by texts setup past same keys)
 
 is_equal : (o : Ordering) → is_eq o ≡ true → o ≡ Equal
 is_equal Less h = cc

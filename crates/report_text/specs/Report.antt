@@ -1,5 +1,5 @@
 -- The report: one line a fact, each ending with LF.
-use Rattle.std.specs.Prelude.{ℕ, Bool, codes, List, [], ◌∷◌, ◌++◌, map, Option, Some, None, if◌then◌else◌}
+use Rattle.std.specs.Prelude.{ℕ, Bool, codes, List, [], ◌∷◌, ◌++◌, length, map, Option, Some, None, if◌then◌else◌}
 use Rattle.std.specs.Fmt.{decimal}
 use Rattle.std.specs.Str.{is_utf8}
 use Rattle.std.specs.Ordering.{nat_cmp}
@@ -121,8 +121,8 @@ abbrev pub told_text : List Told → Text
 told_text [] = []
 told_text (t ∷ ts) = codes " " ++ decimal t.op.0 ++ told_text ts
 
-abbrev pub story_line : List Entry → Text → Text
-story_line past key = ended (codes "story " ++ bytes_text key ++ told_text (story past key))
+abbrev pub story_line : SetupState → List Entry → Text → Text
+story_line setup past key = ended (codes "story " ++ bytes_text key ++ told_text (story setup past key))
 
 -- ---- the whole
 
@@ -140,17 +140,18 @@ abbrev pub ending_line : Ending → Text
 ending_line End = ended (codes "end")
 ending_line (Limit which number) = limit_line which number
 
-abbrev pub hash_text : ℕ → Text
-hash_text hashes = codes " hash " ++ decimal hashes ++ codes " shards 1"
+-- nodes, hashes and shards of a table
+abbrev pub table_text : ℕ → ℕ → ℕ → Text
+table_text nodes hashes shards = codes "nodes " ++ decimal nodes ++ codes " hash " ++ decimal hashes ++ codes " shards " ++ decimal shards
 
 abbrev pub header_line : SetupState → Text
-header_line setup = ended (codes "table nodes " ++ decimal setup.nodes ++ hash_text setup.hashes)
+header_line setup = ended (codes "table " ++ table_text setup.nodes setup.hashes (length setup.shards))
 
 -- the lines of the report of a script, its journal, the events that were refused, and how the run ended
 abbrev pub report : SetupState → List ScriptItem → List Entry → List Refusal → Ending → List Text
 report setup items past refused ending =
     header_line setup
-    ∷ (op_lines past items ++ map refusal_line refused ++ map (story_line past) (keys_from [] items) ++ ending_line ending ∷ [])
+    ∷ (op_lines past items ++ map refusal_line refused ++ map (story_line setup past) (keys_from [] items) ++ ending_line ending ∷ [])
 
 -- the bytes of some lines
 abbrev pub joined : List Text → Text

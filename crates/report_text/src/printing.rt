@@ -77,13 +77,14 @@ fn add_story_lines(
 fn add_stories(
     alloc: Global,
     lines: &mut Vec<Printed>,
+    setup: &Setup,
     known: &Known,
     items: &[ScriptItem],
 ) -> Result<(), OutOfMemory>
     ensures { OnOk result (lines.new.items
-        ≡ lines.old.items ++ map (story_line known.now) (keys_from [] items.now)) }
+        ≡ lines.old.items ++ map (story_line setup.now known.now) (keys_from [] items.now)) }
 {
-    let texts = texts_of(alloc, known)?;
+    let texts = texts_of(alloc, setup, known)?;
     let keys = keys_of(alloc, items)?;
     add_story_lines(alloc, lines, &texts, &keys)?;
     Ok(())
@@ -91,21 +92,21 @@ fn add_stories(
 
 fn lines_of(
     alloc: Global,
-    setup: Setup,
+    setup: &Setup,
     items: &[ScriptItem],
     journal: &Journal,
     refused: &[Refusal],
     ending: Ending,
 ) -> Result<Vec<Printed>, OutOfMemory>
     ensures { IfOk result (λ lines. lines.items
-        ≡ report setup items.now journal.now.past refused.now ending) }
+        ≡ report setup.now items.now journal.now.past refused.now ending) }
 {
     let known = Known::of(alloc, journal)?;
     let mut lines = Vec::new(alloc);
     lines.push(header_line(alloc, setup)?)?;
     add_op_lines(alloc, &mut lines, &known, items)?;
     add_refusals(alloc, &mut lines, refused)?;
-    add_stories(alloc, &mut lines, &known, items)?;
+    add_stories(alloc, &mut lines, setup, &known, items)?;
     lines.push(ending_line(alloc, ending)?)?;
     Ok(lines)
 }
@@ -129,7 +130,7 @@ fn write_lines<K: Sink>(lines: &[Printed], sink: &mut K) -> Result<(), WriteFaul
 /// the sink has taken the first bytes of the report.
 pub fn print_report<K: Sink>(
     alloc: Global,
-    setup: Setup,
+    setup: &Setup,
     items: &[ScriptItem],
     journal: &Journal,
     refused: &[Refusal],
@@ -137,9 +138,9 @@ pub fn print_report<K: Sink>(
     sink: &mut K,
 ) -> Result<(), PrintRefused>
     ensures ok { OnOk result (Appends (K.held sink.old)
-        (joined (report setup items.now journal.now.past refused.now ending)) (K.held sink.new)) }
+        (joined (report setup.now items.now journal.now.past refused.now ending)) (K.held sink.new)) }
     ensures part { OnErr result
-        (let text = joined (report setup items.now journal.now.past refused.now ending) in
+        (let text = joined (report setup.now items.now journal.now.past refused.now ending) in
         (n : ℕ) × (n ≤ length text) × Appends (K.held sink.old) (take n text) (K.held sink.new)) }
     ensures fault { IsErrOf result PrintRefused.WriteFault → IsTrue (rose (K.faults sink.old) (K.faults sink.new)) }
     ensures untouched { IsErrOf result PrintRefused.OutOfMemory → K.held sink.new ≡ K.held sink.old }

@@ -3,30 +3,49 @@ ghost use Rattle.std.specs.Prelude.{◌≡◌, ◌++◌, ◌∷◌, [], ℕ, Lis
 ghost use Rattle.std.specs.Ordering.{nat_cmp};
 ghost use Rattle.std.specs.Cmp.Lexicographic.{slice_cmp};
 ghost use Rattle.std.specs.BTreeMap.{get, is_at};
-ghost use Rattle.exec_types.specs.Sessions.{same_id};
-ghost use Rattle.node_core.specs.Step.{first_id};
 ghost use Rattle.register_laws.specs.Lists.{is_read};
-ghost use Rattle.world_core.specs.Story.{same_key, is_shown, points, points_in, points_of};
+ghost use Rattle.world_core.specs.Story.{branch_of, is_branch, same_key, is_shown, points, points_in, points_of};
 ghost use Rattle.report_text.specs.Report.{keys_from, with_key};
 ghost use Rattle.report_text.specs.Stories.{text_at, told_op, points_text, line_by};
 
 use crate::Printed;
 use crate::known::Known;
 use crate::texts::bytes_text;
+use branch_history::version::is_same_id;
+use contract_types::{Setup, setup_id};
 use exec_types::{Input, Output};
 use memory::OutOfMemory;
 use node_core::Entry;
-use region_map::{Id, Key};
+use region_map::{Id, Key, hash_of};
 use register_laws::{Op, OpId};
 use script_text::{ScriptItem, ScriptWord};
 use std::alloc::Global;
 use std::collections::{BTreeMap, BTreeSet};
 
-/// Whether this is the first branch, which is that of every story.
-fn is_first(branch: Id) -> bool
-    ensures { result ≡ same_id branch (first_id 0) }
+/// The current branch of a key: that of its shard.
+fn branch_of(setup: &Setup, key: &Key) -> Option<Id>
+    ensures { result ≡ branch_of setup.now key.now }
 {
-    branch.node.0 == 0 && branch.life == 1 && branch.counter == 0
+    let hash = hash_of(key, setup.hashes());
+    let shards = setup.config().shards();
+    let mut branch = None;
+    for place in 0..shards.len() {
+        let shard = &shards[place];
+        if shard.region.contains_at(hash, key) {
+            branch = Some(setup_id(place as u64, shard.primary));
+        }
+    }
+    branch
+}
+
+/// Whether a branch is the current one of a key.
+fn is_current(setup: &Setup, key: &Key, branch: &Id) -> bool
+    ensures { result ≡ is_branch (branch_of setup.now key.now) branch.now }
+{
+    match branch_of(setup, key) {
+        Some(current) => is_same_id(&current, branch),
+        None => false,
+    }
 }
 
 fn is_read(what: &Op) -> bool
@@ -73,13 +92,14 @@ fn tell(
 
 fn tell_output(
     alloc: Global,
+    setup: &Setup,
     known: &Known,
     texts: &mut BTreeMap<Key, Printed>,
     what: &Op,
     output: &Output,
 ) -> Result<(), OutOfMemory>
     ensures { OnOk result ((key : List ℕ) → text_at texts.new key
-        ≡ text_at texts.old key ++ points_text known.now key (points_in what.now (output.now ∷ []))) }
+        ≡ text_at texts.old key ++ points_text setup.now known.now key (points_in what.now (output.now ∷ []))) }
 {
     if let Output::Dispatched {
         op,
@@ -88,7 +108,7 @@ fn tell_output(
         ..
     } = output
     {
-        if is_first(*branch) && is_shown(known, *op, what) {
+        if is_shown(known, *op, what) && is_current(setup, key, branch) {
             return tell(alloc, texts, key, *op);
         }
     }
@@ -97,43 +117,49 @@ fn tell_output(
 
 fn tell_outputs(
     alloc: Global,
+    setup: &Setup,
     known: &Known,
     texts: &mut BTreeMap<Key, Printed>,
     what: &Op,
     outputs: &[Output],
 ) -> Result<(), OutOfMemory>
     ensures { OnOk result ((key : List ℕ) → text_at texts.new key
-        ≡ text_at texts.old key ++ points_text known.now key (points_in what.now outputs.now)) }
+        ≡ text_at texts.old key ++ points_text setup.now known.now key (points_in what.now outputs.now)) }
 {
     for output in outputs {
-        tell_output(alloc, known, texts, what, output)?;
+        tell_output(alloc, setup, known, texts, what, output)?;
     }
     Ok(())
 }
 
 fn tell_entry(
     alloc: Global,
+    setup: &Setup,
     known: &Known,
     texts: &mut BTreeMap<Key, Printed>,
     entry: &Entry,
 ) -> Result<(), OutOfMemory>
     ensures { OnOk result ((key : List ℕ) → text_at texts.new key
-        ≡ text_at texts.old key ++ points_text known.now key (points_of entry.now.input entry.now.outputs)) }
+        ≡ text_at texts.old key ++ points_text setup.now known.now key (points_of entry.now.input entry.now.outputs)) }
 {
     if let Input::Request { what, .. } = &entry.input {
-        return tell_outputs(alloc, known, texts, what, entry.outputs.as_slice());
+        return tell_outputs(alloc, setup, known, texts, what, entry.outputs.as_slice());
     }
     Ok(())
 }
 
 /// What the story of each key tells.
-pub(crate) fn texts_of(alloc: Global, known: &Known) -> Result<BTreeMap<Key, Printed>, OutOfMemory>
-    ensures { IfOk result (λ texts. (key : List ℕ) → text_at texts key ≡ points_text known.now key (points known.now)) }
+pub(crate) fn texts_of(
+    alloc: Global,
+    setup: &Setup,
+    known: &Known,
+) -> Result<BTreeMap<Key, Printed>, OutOfMemory>
+    ensures { IfOk result (λ texts. (key : List ℕ) → text_at texts key ≡ points_text setup.now known.now key (points known.now)) }
 {
     let entries = known.entries();
     let mut texts = BTreeMap::new(alloc);
     for entry in entries {
-        tell_entry(alloc, known, &mut texts, entry)?;
+        tell_entry(alloc, setup, known, &mut texts, entry)?;
     }
     Ok(texts)
 }

@@ -1,9 +1,11 @@
+ghost use Rattle.std.specs.Prelude.{◌<◌};
+
 use super::*;
-use contract_types::{Counts, Setup, Which};
+use contract_types::{Counts, Setup, ShardConfig, TableConfig, Which};
 use exec_types::{Input, Outcome, Output, Outputs};
 use line_io::MemorySink;
 use node_core::{Entry, Journal};
-use region_map::{Id, Key, NodeId};
+use region_map::{Id, Key, NodeId, NodeSet, Region};
 use register_laws::{Op, OpId, Reply, Value};
 use script_text::{Reason, ScriptItem, ScriptWord};
 use std::alloc::Global;
@@ -189,9 +191,91 @@ fn tells_what_became_of_each_operation(rt: HostRuntime) -> Result<(), Fail> {
     };
     let mut sink = MemorySink::new(alloc, Vec::new(alloc));
     sink.reserve(1000)?;
-    let setup = Setup::new(3, 8);
-    print_report(alloc, setup, &items, &journal, &refused, ending, &mut sink)?;
+    let setup = Setup::whole(alloc, 3, 8)?;
+    print_report(alloc, &setup, &items, &journal, &refused, ending, &mut sink)?;
     assert_eq!(rt; sink.bytes(), ALL_FATES.as_bytes());
+    Ok(())
+}
+
+/// A shard of the keys from one bound to another, which its primary alone keeps.
+fn shard(from: Option<Key>, to: Option<Key>, primary: u8) -> ShardConfig
+    requires { primary < 64 }
+{
+    let set = NodeSet::empty().with(NodeId(primary));
+    ShardConfig {
+        region: Region {
+            hash_from: 0,
+            hash_to: 1,
+            from,
+            to,
+        },
+        replicas: set,
+        voters: set,
+        primary: NodeId(primary),
+    }
+}
+
+/// Three nodes and two shards: node 0 has the keys before m, and node 2 the others.
+fn two_shards(alloc: Global) -> Result<Setup, Fail> {
+    let mut shards = Vec::new(alloc);
+    let to = Key::new("m".as_bytes().to_vec(alloc)?)?;
+    let from = to.copy(alloc)?;
+    shards.push(shard(None, Some(to), 0))?;
+    shards.push(shard(Some(from), None, 2))?;
+    let config = TableConfig::new(alloc, 3, 1, shards)?;
+    Ok(Setup::new(config))
+}
+
+/// A delete that a node dispatched on a branch.
+fn dispatch(
+    alloc: Global,
+    journal: &mut Journal,
+    op: u64,
+    key: &str,
+    branch: Id,
+) -> Result<(), Fail> {
+    let op = OpId(op);
+    let key = Key::new(key.as_bytes().to_vec(alloc)?)?;
+    let mut outputs = Outputs::new(alloc);
+    outputs.push(Output::Dispatched {
+        op,
+        key: key.copy(alloc)?,
+        branch,
+        timestamp: 1,
+    })?;
+    journal.push(Entry {
+        node: branch.node,
+        input: Input::Request {
+            op,
+            key,
+            what: Op::Delete,
+        },
+        outputs,
+    })?;
+    Ok(())
+}
+
+#[test]
+fn tells_the_current_branch_of_each_key(rt: HostRuntime) -> Result<(), Fail> {
+    let alloc = rt.alloc();
+    let second = Id {
+        node: NodeId(2),
+        life: 1,
+        counter: 1,
+    };
+    let mut journal = Journal::empty(alloc);
+    dispatch(alloc, &mut journal, 1, "a", FIRST)?;
+    dispatch(alloc, &mut journal, 2, "z", FIRST)?;
+    dispatch(alloc, &mut journal, 3, "z", second)?;
+    let items = read_items(alloc, &["a", "z", "z"])?;
+    let setup = two_shards(alloc)?;
+    let mut sink = MemorySink::new(alloc, Vec::new(alloc));
+    sink.reserve(1000)?;
+    print_report(alloc, &setup, &items, &journal, &[], Ending::End, &mut sink)?;
+    assert_eq!(rt;
+        sink.bytes(),
+        b"table nodes 3 hash 1 shards 2\nop 1 open\nop 2 open\nop 3 open\nstory \"a\" 1\nstory \"z\" 3\nend\n".as_slice()
+    );
     Ok(())
 }
 
@@ -204,7 +288,7 @@ fn stops_at_a_fault(rt: HostRuntime) -> Result<(), Fail> {
     let journal = Journal::empty(alloc);
     let printed = print_report(
         alloc,
-        Setup::new(1, 1),
+        &Setup::whole(alloc, 1, 1)?,
         &items,
         &journal,
         &[],

@@ -4,7 +4,7 @@ ghost use Rattle.std.specs.Prelude.{◌≡◌, IfOk};
 ghost use Rattle.std.specs.String.{string_bytes};
 ghost use Rattle.serde_json.specs.Data.{string};
 ghost use Rattle.serde_json.specs.Written.{compact_text};
-ghost use Rattle.report_text.specs.Report.{bytes_text, value_text, reply_text, id_text, pair_text, temp_text, counts_text, outcome_text, event_refused_text, refusal_line, which_text, limit_line, header_line, hash_text, ending_line, usage_line, read_fault_line, script_line};
+ghost use Rattle.report_text.specs.Report.{bytes_text, value_text, reply_text, id_text, pair_text, temp_text, counts_text, outcome_text, event_refused_text, refusal_line, which_text, limit_line, header_line, table_text, ending_line, usage_line, read_fault_line, script_line};
 
 use crate::{Ending, EventRefused, Printed, Refusal};
 use contract_types::{Counts, Setup, Which};
@@ -148,25 +148,22 @@ pub fn limit_line(alloc: Global, which: Which, number: u64) -> Result<Printed, O
 }
 
 /// The line that tells what the table began with.
-pub(crate) fn header_line(alloc: Global, setup: Setup) -> Result<Printed, OutOfMemory>
-    ensures { IfOk result (λ line. line ≡ header_line setup) }
+pub(crate) fn header_line(alloc: Global, setup: &Setup) -> Result<Printed, OutOfMemory>
+    ensures { IfOk result (λ line. line ≡ header_line setup.now) }
 {
-    let text = header_text(alloc, setup.nodes(), setup.hashes())?;
-    Ok(Printed::new(text))
+    let table = table_text(
+        alloc,
+        setup.nodes(),
+        setup.hashes(),
+        setup.config().shards().len(),
+    )?;
+    Ok(Printed::new(format!(in alloc; "table {table}\n")?))
 }
 
-fn header_text(alloc: Global, nodes: u8, hashes: u8) -> Result<String, OutOfMemory>
-    ensures { IfOk result
-        (λ s. string_bytes s ≡ header_line (record { nodes = nodes; hashes = hashes })) }
+fn table_text(alloc: Global, nodes: u8, hashes: u8, shards: usize) -> Result<String, OutOfMemory>
+    ensures { IfOk result (λ s. string_bytes s ≡ table_text nodes hashes shards) }
 {
-    let hash = hash_text(alloc, hashes)?;
-    Ok(format!(in alloc; "table nodes {nodes}{hash}\n")?)
-}
-
-fn hash_text(alloc: Global, hashes: u8) -> Result<String, OutOfMemory>
-    ensures { IfOk result (λ s. string_bytes s ≡ hash_text hashes) }
-{
-    Ok(format!(in alloc; " hash {hashes} shards 1")?)
+    Ok(format!(in alloc; "nodes {nodes} hash {hashes} shards {shards}")?)
 }
 
 /// The line that tells how a run ended.

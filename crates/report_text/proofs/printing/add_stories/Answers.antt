@@ -8,4 +8,4 @@ use Rattle.report_text.proofs.printing.add_stories.Goals as goal
 pub returns : goal.returns
 returns c =
     c.in_ok-add_story_lines.ensures
-    ∙ ap (λ (ls : List (List ℕ)). c.args.lines.now.items ++ ls) (ap (map (line_by c.in_ok-texts.texts)) c.in_ok-keys.ensures ∙ lines-by c.in_ok-texts.texts c.args.known.now (λ key. c.in_ok-texts.ensures key ∙ sym (told-points c.args.known.now key None (points c.args.known.now))) (keys_from [] c.args.items.now))
+    ∙ ap (λ (ls : List (List ℕ)). c.args.lines.now.items ++ ls) (ap (map (line_by c.in_ok-texts.texts)) c.in_ok-keys.ensures ∙ lines-by c.in_ok-texts.texts c.args.setup.now c.args.known.now (λ key. c.in_ok-texts.ensures key ∙ sym (told-points c.args.setup.now c.args.known.now key None (points c.args.known.now))) (keys_from [] c.args.items.now))
