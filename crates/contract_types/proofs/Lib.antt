@@ -4,4 +4,4 @@ pub mod Bounds
 pub mod Everywhere
 pub mod Nearest
 pub mod Shards
-mod Whole
+pub mod Whole

@@ -1,9 +1,15 @@
 -- Every accepted script is sound.
-use Rattle.std.proofs.Common.{⊎_elim, ◌≡◌, ◌⊎◌, inl, inr, append-nil, append_assoc, ℕ, ◌+◌, Bool, true, false, not, ◌&&◌, List, [], ◌∷◌, ◌++◌, Some, None, refl, sym, subst}
+use Rattle.std.proofs.Common.{⊎_elim, ◌≡◌, ◌⊎◌, inl, inr, append-nil, append_assoc, ℕ, ◌+◌, ◌<◌, Bool, true, false, not, ◌&&◌, List, [], ◌∷◌, ◌++◌, Some, None, refl, sym, subst, arith}
 use Rattle.std.specs.Prelude.{Option, option_and_then, option_map, if◌then◌else◌, bytes_eq, codes, nat_lt}
 use Rattle.std.specs.List.{list_all}
+use Rattle.std.proofs.lemmas.Bool.Decides.{nat_tests}
 use Rattle.serde_json.specs.Data.{Data}
-use Rattle.contract_types.specs.Setup.{SetupState}
+use Rattle.serde_json.specs.Find.{get}
+use Rattle.contract_types.specs.Setup.{SetupState, IsSetup, is_setup, whole}
+use Rattle.contract_types.specs.declared.config.ShardConfig.{ShardConfig}
+use Rattle.contract_types.specs.Configs.{ConfigState, is_config}
+use Rattle.contract_types.proofs.Shards.{config_decides}
+use Rattle.contract_types.proofs.Whole.{whole_is_config}
 use Rattle.script_text.specs.declared.script.ScriptWord.{ScriptWord}
 use Rattle.script_text.specs.declared.script.ScriptItem.{ScriptItem}
 use Rattle.script_text.specs.Script.{ScriptState, is_again}
@@ -13,7 +19,7 @@ use Rattle.register_laws.specs.declared.operation.Op.{Op}
 use Rattle.register_laws.specs.declared.operation.Op.TheVariants.{Put, Delete, Cas, Read}
 use Rattle.region_map.specs.declared.id.NodeId.{NodeId}
 use Rattle.region_map.specs.Nodes.{node_id}
-use Rattle.script_text.specs.Grammar.{◌>>=◌, kept_if, number_in, op_in, node_in, key_in, value_in, value_or_null_in, setup_of, put_of, delete_of, read_of, cas_of, giveup_of, deliver_of, lose_of, flush_of, word_named, text_in}
+use Rattle.script_text.specs.Grammar.{◌>>=◌, kept_if, number_in, op_in, node_in, key_in, value_in, value_or_null_in, number_or, config_of, shards_of, setup_with, setup_of, put_of, delete_of, read_of, cas_of, giveup_of, deliver_of, lose_of, flush_of, word_named, text_in}
 use Rattle.script_text.specs.Lines.{Reading, ScriptRead, Accepted, at_first, said, is_blank, line_data, lines, take_line, take_data, take_named, take_setup, take_word, unless_refused, read_from, read_lines}
 use Rattle.script_text.specs.Sound.{fits_table, are_new, IsSound}
 
@@ -137,9 +143,9 @@ and_then_is : {A B : Type 0} (f : A → Option B) (o : Option A) (b : B) → opt
 and_then_is f None b is = cc
 and_then_is f (Some a) b is = (a, refl, is)
 
-map_is : {A B : Type 0} (f : A → B) (o : Option A) (b : B) → option_map f o ≡ Some b → (a : A) × (f a ≡ b)
+map_is : {A B : Type 0} (f : A → B) (o : Option A) (b : B) → option_map f o ≡ Some b → (a : A) × (o ≡ Some a) × (f a ≡ b)
 map_is f None b is = cc
-map_is f (Some a) b is = (a, cc)
+map_is f (Some a) b is = (a, refl, cc)
 
 if_is : {A : Type 0} (test : Bool) (x y : Option A) (a : A) → (if test then x else y) ≡ Some a → ((test ≡ true) × (x ≡ Some a)) ⊎ ((test ≡ false) × (y ≡ Some a))
 if_is true x y a is = inl (refl, is)
@@ -163,13 +169,48 @@ all-push p (x ∷ xs) item all one =
 all-none : (p : ScriptItem → Bool) (items : List ScriptItem) → items ≡ [] → list_all p items ≡ true
 all-none p items none = subst (λ xs. list_all p xs ≡ true) (sym none) refl
 
+-- ---- what a table may begin with
+
+whole-setup : (nodes hashes : ℕ) → is_setup nodes hashes ≡ true → IsSetup (whole nodes hashes)
+whole-setup nodes hashes fits = record { fits = fits; config = whole_is_config nodes hashes (some_nodes nodes hashes fits) (some_hashes nodes hashes fits) }
+  where
+    some_nodes : (n h : ℕ) → is_setup n h ≡ true → 0 < n
+    some_nodes n h e = grind (arith, nat_tests)
+
+    some_hashes : (n h : ℕ) → is_setup n h ≡ true → 0 < h
+    some_hashes n h e = grind (arith, nat_tests)
+
+config-setup : (nodes hashes : ℕ) (shards : List ShardConfig) (s : SetupState) → is_setup nodes hashes ≡ true → config_of nodes hashes shards ≡ Some s → IsSetup s
+config-setup nodes hashes shards s fits is =
+    let c : ConfigState = record { nodes = nodes; hashes = hashes; shards = shards } in
+    let k = kept_is (is_config c) c s is in
+    subst IsSetup k.1 (record { fits = fits; config = (config_decides c).0 k.0 })
+
+with-setup : (nodes hashes : ℕ) (shards : Option Data) (s : SetupState) → is_setup nodes hashes ≡ true → setup_with nodes hashes shards ≡ Some s → IsSetup s
+with-setup nodes hashes None s fits is = let same : whole nodes hashes ≡ s = cc in subst IsSetup same (whole-setup nodes hashes fits)
+with-setup nodes hashes (Some d) s fits is =
+    let k = and_then_is (config_of nodes hashes) (shards_of hashes d) s is in
+    config-setup nodes hashes k.0 s fits k.2
+
+of-setup : (only : Bool) (nodes hashes : Option ℕ) (shards : Option Data) (s : SetupState)
+    → (nodes >>= λ n. hashes >>= λ h. if only && is_setup n h then setup_with n h shards else None) ≡ Some s → IsSetup s
+of-setup only None hashes shards s is = cc
+of-setup only (Some n) None shards s is = cc
+of-setup only (Some n) (Some h) shards s is =
+    ⊎_elim (λ (c : ((only && is_setup n h) ≡ true) × (setup_with n h shards ≡ Some s)). with-setup n h shards s (both only (is_setup n h) c.0).1 c.1)
+    (λ (c : ((only && is_setup n h) ≡ false) × (None ≡ Some s)). cc)
+    (if_is (only && is_setup n h) (setup_with n h shards) None s is)
+
+line-setup : (line : Data) (s : SetupState) → setup_of line ≡ Some s → IsSetup s
+line-setup line s is = of-setup _ (number_in (codes "nodes") line) (number_or 8 (get (codes "hash") line)) (get (codes "shards") line) s is
+
 setup-sound : (r s : Reading) (line : Data) → IsSoundSoFar r → take_setup r line ≡ Some s → IsSoundSoFar s
 setup-sound r s line h is =
     ⊎_elim (λ (c : (r.begun ≡ true) × (None ≡ Some s)). cc)
     (λ (c : (r.begun ≡ false) × (option_map (λ setup. record r { begun = true; setup = setup }) (setup_of line) ≡ Some s)).
     let m = map_is (λ (setup : SetupState). record r { begun = true; setup = setup }) (setup_of line) s c.1 in
     let none = h.empty c.0 in
-    subst IsSoundSoFar m.1 (record { sound = record { fits = all-none (λ i. fits_table m.0 i.word) r.items none; new = subst (λ items. are_new [] items ≡ true) (sym none) refl }; empty = λ e. cc }))
+    subst IsSoundSoFar m.2 (record { sound = record { begins = line-setup line m.0 m.1; fits = all-none (λ i. fits_table m.0 i.word) r.items none; new = subst (λ items. are_new [] items ≡ true) (sym none) refl }; empty = λ e. cc }))
     (if_is r.begun None (option_map (λ (setup : SetupState). record r { begun = true; setup = setup }) (setup_of line)) s is)
 
 word-sound : (r s : Reading) (number : ℕ) (word : ScriptWord) → IsSoundSoFar r → fits_table r.setup word ≡ true → take_word r number word ≡ Some s → IsSoundSoFar s
@@ -178,6 +219,7 @@ word-sound r s number word h fits is =
     let k = kept_is (not (is_again word r.items)) (record r { begun = true; items = r.items ++ item ∷ [] }) s is in
     subst IsSoundSoFar k.1 (record {
       sound = record {
+        begins = h.sound.begins;
         fits = all-push (λ i. fits_table r.setup i.word) r.items item h.sound.fits fits;
         new = are_new-push [] r.items item h.sound.new k.0;
       };
@@ -220,4 +262,4 @@ from-sound (l ∷ ls) number r script h is =
 -- every accepted script is sound
 pub accepted_sound : (text : List ℕ) (script : ScriptState) → read_lines text ≡ Accepted script → IsSound script
 accepted_sound text script is =
-    from-sound (lines text) 1 at_first script (record { sound = record { fits = refl; new = refl }; empty = λ e. refl }) is
+    from-sound (lines text) 1 at_first script (record { sound = record { begins = whole-setup 1 8 refl; fits = refl; new = refl }; empty = λ e. refl }) is
