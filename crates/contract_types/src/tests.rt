@@ -122,34 +122,67 @@ fn versions(alloc: Global) -> Result<RegionMap<Version>, Fail> {
 }
 
 #[test]
-fn a_change_is_copied(rt: HostRuntime) -> Result<(), Fail> {
+fn a_setup_is_copied(rt: HostRuntime) -> Result<(), Fail> {
     let alloc = rt.alloc();
     let setup = Setup::whole(alloc, 2, 1)?;
     assert!(rt; setup.nodes() == 2 && setup.hashes() == 1 && setup.config().shards().len() == 1);
-    let other = setup.copy(alloc)?;
-    assert!(rt; are_alike(alloc, &setup, &other)?);
-    let id = setup_id(0, NodeId(1));
-    let removed = Ids::from(vec![in alloc; id]?);
-    let mut added = Contracts::new(alloc);
-    added.push(first_contract(alloc, 0, &setup.config().shards()[0])?)?;
-    assert!(rt; removed.copy(alloc)?.as_slice() == [id].as_slice());
-    assert!(rt; added.as_slice().len() == 1 && are_alike(alloc, &added, &added.copy(alloc)?)?);
-    let changes = vec![in alloc;
-        Change::Noop,
-        Change::SetConfig(setup.config().copy(alloc)?),
-        Change::NewContracts { removed, added },
-        Change::RegisterBranch {
-            branch: id,
-            region: all_keys(),
-            tenure: 1,
-            maker: NodeId(1),
-            based_on: branches(alloc, id)?,
-            origin: versions(alloc)?,
-        },
-    ]?;
-    for change in &changes {
-        assert!(rt; are_alike(alloc, change, &change.copy(alloc)?)?);
-    }
+    assert!(rt; are_alike(alloc, &setup, &setup.copy(alloc)?)?);
+    Ok(())
+}
+
+/// The first contract of a shard of all keys.
+fn contracts(alloc: Global) -> Result<Contracts, Fail> {
+    let shard = shard(alloc, "", "", NodeSet::empty().with(NodeId(1)), 1)?;
+    let mut contracts = Contracts::new(alloc);
+    contracts.push(first_contract(alloc, 0, &shard)?)?;
+    Ok(contracts)
+}
+
+fn ids(alloc: Global) -> Result<Ids, Fail> {
+    Ok(Ids::from(vec![in alloc; setup_id(0, NodeId(1))]?))
+}
+
+#[test]
+fn ids_and_contracts_are_copied(rt: HostRuntime) -> Result<(), Fail> {
+    let alloc = rt.alloc();
+    let ids = ids(alloc)?;
+    assert!(rt; ids.copy(alloc)?.as_slice() == ids.as_slice());
+    let contracts = contracts(alloc)?;
+    assert!(rt; contracts.as_slice().len() == 1);
+    assert!(rt; are_alike(alloc, &contracts, &contracts.copy(alloc)?)?);
+    Ok(())
+}
+
+/// Whether a change and its copy are written alike.
+fn is_copied(alloc: Global, change: &Change) -> Result<bool, Fail> {
+    let copy = change.copy(alloc)?;
+    are_alike(alloc, change, &copy)
+}
+
+fn registration(alloc: Global) -> Result<Change, Fail> {
+    let branch = setup_id(0, NodeId(1));
+    let based_on = branches(alloc, branch)?;
+    let origin = versions(alloc)?;
+    Ok(Change::RegisterBranch {
+        branch,
+        region: all_keys(),
+        tenure: 1,
+        maker: NodeId(1),
+        based_on,
+        origin,
+    })
+}
+
+#[test]
+fn a_change_is_copied(rt: HostRuntime) -> Result<(), Fail> {
+    let alloc = rt.alloc();
+    assert!(rt; is_copied(alloc, &Change::Noop)?);
+    let config = TableConfig::whole(alloc, 2, 1)?;
+    assert!(rt; is_copied(alloc, &Change::SetConfig(config))?);
+    let removed = ids(alloc)?;
+    let added = contracts(alloc)?;
+    assert!(rt; is_copied(alloc, &Change::NewContracts { removed, added })?);
+    assert!(rt; is_copied(alloc, &registration(alloc)?)?);
     Ok(())
 }
 
