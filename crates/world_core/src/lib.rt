@@ -1,13 +1,14 @@
 //! The world of all nodes: its runs, its stories, and what holds of every run.
 //!
 //! Above: the programs. Below: `node_core`, `register_laws`.
-//! Promise: the journal of a world is a run, and each key's story is a register story of it.
+//! Promise: the journal of a world is a run, each key's story is a register story of it, and each row of each node is what
+//! the operations on the path of its version left.
 #![tactic(auto)]
 
 pub use envelope::Envelope;
 pub use laws::{
-    answers_of_runs, give_ups_of_runs, messages_of_runs, refusals_of_runs, serving_of_runs,
-    single_answers_of_runs, stories_of_runs,
+    answers_of_runs, give_ups_of_runs, messages_of_runs, refusals_of_runs, rows_of_runs,
+    serving_of_runs, single_answers_of_runs, stories_of_runs,
 };
 pub use lose_refused::LoseRefused;
 pub use push_refused::PushRefused;
