@@ -4,7 +4,7 @@ use Rattle.std.proofs.lemmas.Bool.{cond_both, false≢true, and_parts, eq-eqb, l
 use Rattle.std.specs.List.{list_all}
 use Rattle.region_map.specs.declared.id.NodeId.{NodeId}
 use Rattle.register_laws.specs.declared.operation.OpId.{OpId}
-use Rattle.contract_types.specs.Setup.{SetupState}
+use Rattle.contract_types.specs.Setup.{SetupState, IsSetup}
 use Rattle.contract_types.specs.declared.limits.Which.TheVariants.{Numbers}
 use Rattle.exec_types.specs.declared.input.Input.{Input}
 use Rattle.exec_types.specs.declared.input.Input.TheVariants as input
@@ -50,7 +50,7 @@ input_goes past node (input.Deliver number) later e = owner (message_at past num
     owner None e = cc
     owner (Some m) e = grind arith
 
-module _ (setup : SetupState) where
+module _ (setup : SetupState) (begins : IsSetup setup) where
   event_goes : (before : List ScriptItem) (p : Played) (node : NodeId) (i : Input) → Reached setup before p.past → nat_lt node.0 setup.nodes ≡ true → input_refusal p.past node i None ≡ None
       → ((op : OpId) → requests i op ≡ true → is_known op.0 before ≡ true) → Goes setup before p node i (play_event setup p node i)
   event_goes before p node i h fits free new =
@@ -74,7 +74,7 @@ module _ (setup : SetupState) where
   delivery_goes : (before : List ScriptItem) (p : Played) (number : ℕ) (m : Envelope) → Reached setup before p.past → message_at p.past number ≡ Some m
       → Goes setup before p m.to (input.Deliver number) (play_event setup p m.to (input.Deliver number))
   delivery_goes before p number m h e =
-      let within : nat_lt m.to.0 setup.nodes ≡ true = lt-ltb m.to.0 setup.nodes (message_within setup p.past h.run number m e).1 in
+      let within : nat_lt m.to.0 setup.nodes ≡ true = lt-ltb m.to.0 setup.nodes (message_within setup begins p.past h.run number m e).1 in
       let free : owner_refusal (message_at p.past number) m.to None ≡ None =
       ap (λ (o : Option Envelope). owner_refusal o m.to None) e ∙ ap (λ b. cond b None (Some NotYours)) (eq-eqb m.to.0 m.to.0 refl) in
       event_goes before p m.to (input.Deliver number) h within free (λ op r. absurd (false≢true r))
@@ -193,4 +193,4 @@ module _ (setup : SetupState) where
 pub accepted_lines_do : (text : List ℕ) (script : ScriptState) → read_lines text ≡ Accepted script → AllDo script.setup unplayed script.items
 accepted_lines_do text script is =
     let sound = accepted_sound text script is in
-    lines_go script.setup [] script.items unplayed (record { run = tt; known = λ op r. absurd (false≢true r) }) sound.fits sound.new
+    lines_go script.setup sound.begins [] script.items unplayed (record { run = tt; known = λ op r. absurd (false≢true r) }) sound.fits sound.new

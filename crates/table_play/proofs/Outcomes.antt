@@ -1,9 +1,10 @@
 -- Joining what was played with what was printed, and what the laws of runs say of a journal.
-use Rattle.std.proofs.Common.{◌≡◌, ℕ, Bool, List, [], Option, Some, None, refl, sym, ap, subst, ◌⊎◌, inl, inr}
-use Rattle.contract_types.specs.Setup.{SetupState}
+use Rattle.std.proofs.Common.{◌≡◌, ℕ, Bool, List, [], ◌++◌, Option, Some, None, refl, sym, ap, subst, ◌⊎◌, inl, inr}
+use Rattle.contract_types.specs.Setup.{SetupState, IsSetup, whole}
 use Rattle.node_core.specs.declared.journal.Entry.{Entry}
 use Rattle.node_core.specs.Journal.{JournalState}
 use Rattle.script_text.specs.declared.status.Status.{Status}
+use Rattle.script_text.specs.declared.status.Status.TheVariants as status
 use Rattle.script_text.specs.Script.{ScriptState}
 use Rattle.script_text.specs.Lines.{Accepted}
 use Rattle.report_text.specs.declared.ending.Refusal.{Refusal}
@@ -34,22 +35,22 @@ script_ends script past lost refused met result h h' f f' e printed =
       | inr wants ↦ inr (record { status_is = wants.0; nothing_written = wants.1; played = inr (script, refl, (refl, ([], sym (ap (λ (p : Played). p.past) e)))) })
     ]
 
-run_from_story : (setup : Option SetupState) (past : List Entry) → IsRunFrom setup past → (key : List ℕ) → IsRegisterStory past key (story past key)
-run_from_story None past h key =
-    subst (λ (p : List Entry). IsRegisterStory p key (story p key)) (sym h) (run_story (record { nodes = 1; hashes = 1 }) [] tt key)
-run_from_story (Some setup) past h key = run_story setup past h key
+-- memory was wanted while the script was played
+pub script_wants : (script : ScriptState) (past : List Entry) (held : Option (List ℕ)) → (later : List Entry) × ((play_journal script.setup script.items).past ≡ later ++ past)
+    → Wants (Accepted script) status.OutOfMemory (journal_of script past) held held
+script_wants script past held part = record { status_is = refl; nothing_written = refl; played = inr (script, refl, (refl, part)) }
 
--- each key's story in a journal that is a run
-pub journal_story : (journal : JournalState) → IsRunJournal journal → (key : List ℕ) → IsRegisterStory journal.past key (story journal.past key)
-journal_story journal h key = run_from_story journal.setup journal.past h key
-
--- the entries of a journal that is one of a setup are a run
-pub journal_run : (journal : JournalState) → IsRunJournal journal → (setup : SetupState) → journal.setup ≡ Some setup → IsRun setup journal.past
+-- the entries of a journal that has a setup are a run of it, and a table may begin with it
+pub journal_run : (journal : JournalState) → IsRunJournal journal → (setup : SetupState) → journal.setup ≡ Some setup → IsSetup setup × IsRun setup journal.past
 journal_run journal h setup e = subst (λ (o : Option SetupState). IsRunFrom o journal.past) e h
 
+-- each key's story in such a journal
+pub journal_story : (journal : JournalState) → IsRunJournal journal → (setup : SetupState) (key : List ℕ) → journal.setup ≡ Some setup → IsRegisterStory setup journal.past key (story setup journal.past key)
+journal_story journal h setup key e = let r = journal_run journal h setup e in run_story setup r.0 journal.past r.1 key
+
 run_of_some : (setup : Option SetupState) (past : List Entry) → IsRunFrom setup past → (s : SetupState) × IsRun s past
-run_of_some None past h = (record { nodes = 1; hashes = 1 }, subst (λ (p : List Entry). IsRun (record { nodes = 1; hashes = 1 }) p) (sym h) tt)
-run_of_some (Some setup) past h = (setup, h)
+run_of_some None past h = (whole 1 1, subst (λ (p : List Entry). IsRun (whole 1 1) p) (sym h) tt)
+run_of_some (Some setup) past h = (setup, h.1)
 
 -- the entries of a journal are a run of some setup
 pub journal_of_run : (journal : JournalState) → IsRunJournal journal → (s : SetupState) × IsRun s journal.past

@@ -3,7 +3,7 @@ use Rattle.std.specs.Prelude.{◌≡◌, ℕ, ◌<◌, ◌≤◌, Bool, true, fa
 use Rattle.contract_types.specs.declared.limits.Which.TheVariants.{ScriptBytes, Numbers}
 use Rattle.line_io.specs.Bytes.{Gives, Appends, IsAtEnd}
 use Rattle.line_io.specs.Counts.{rose}
-use Rattle.contract_types.specs.Setup.{SetupState}
+use Rattle.contract_types.specs.Setup.{SetupState, IsSetup}
 use Rattle.world_core.specs.Run.{IsRun}
 use Rattle.node_core.specs.declared.journal.Entry.{Entry}
 use Rattle.node_core.specs.Journal.{JournalState, empty_journal}
@@ -117,10 +117,10 @@ IsPlay words result journal left left' faults faults' held held' writes writes' 
     ⊎ (((is_command words ≡ true) × ((r : Reading) × IsReading r left left' faults faults' × (Ends (outcome_of r) result journal held held' writes writes' ⊎ WantsOf r result journal held held')))
     ⊎ ((is_command words ≡ true) × WantsFirst result journal held held'))
 
--- the setup of a journal, where it has one, makes its entries a run
+-- a table may begin with the setup of a journal, where it has one, and from there the entries are a run
 abbrev pub IsRunFrom : Option SetupState → List Entry → Type 0
 IsRunFrom None past = past ≡ []
-IsRunFrom (Some setup) past = IsRun setup past
+IsRunFrom (Some setup) past = IsSetup setup × IsRun setup past
 
 abbrev pub IsRunJournal : JournalState → Type 0
 IsRunJournal journal = IsRunFrom journal.setup journal.past

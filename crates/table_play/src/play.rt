@@ -1,5 +1,5 @@
 //! The top call.
-ghost use Rattle.std.specs.Prelude.{◌≡◌, ◌⊎◌, ◌≤◌, ℕ, List, Some, false, map};
+ghost use Rattle.std.specs.Prelude.{◌≡◌, ◌⊎◌, ◌≤◌, ℕ, List, [], None, Some, false, map, IfOk};
 ghost use Rattle.node_core.specs.Journal.{empty_journal};
 ghost use Rattle.script_text.specs.Lines.{Accepted, read_lines};
 ghost use Rattle.report_text.specs.Report.{report, joined};
@@ -19,6 +19,7 @@ use crate::events::play_items;
 use crate::saying::say;
 use contract_types::Which;
 use line_io::{ReadRefused, Sink, Source, read_all};
+use memory::OutOfMemory;
 use node_core::Journal;
 use report_text::{
     Ending, PrintRefused, Refusal, limit_line, print_report, read_fault_line, script_line,
@@ -89,6 +90,14 @@ fn print<K: Sink>(
     }
 }
 
+/// The table of a script as it begins.
+fn begin(alloc: Global, script: &Script) -> Result<World, OutOfMemory>
+    ensures { IfOk result (λ world. world ≡ record { setup = script.now.setup; past = []; lost = []; ended = None }) }
+{
+    let setup = script.setup().copy(alloc)?;
+    World::begin(alloc, setup)
+}
+
 /// Plays a script that was read, and prints its report.
 fn play_script<K: Sink>(
     alloc: Global,
@@ -101,7 +110,7 @@ fn play_script<K: Sink>(
         ⊎ Wants (Accepted script.now) result journal.new (K.held sink.old) (K.held sink.new) }
     ensures run { IsRunJournal journal.new }
 {
-    let Ok(mut world) = World::begin(alloc, script.setup()) else {
+    let Ok(mut world) = begin(alloc, script) else {
         return Status::OutOfMemory;
     };
     let mut refused = Vec::new(alloc);
@@ -182,7 +191,8 @@ pub fn play<S: Source, K: Sink>(
     ensures play { IsPlay (map (λ w. w.now) words.now) result journal.new (S.left source.old) (S.left source.new)
         (S.faults source.old) (S.faults source.new) (K.held sink.old) (K.held sink.new) (K.faults sink.old) (K.faults sink.new) }
     ensures run { IsRunJournal journal.new }
-    ensures stories { (key : List ℕ) → IsRegisterStory journal.new.past key (story journal.new.past key) }
+    ensures stories { (setup : SetupState) (key : List ℕ) → journal.new.setup ≡ Some setup
+        → IsRegisterStory setup journal.new.past key (story setup journal.new.past key) }
     ensures not_serving_only { (setup : SetupState) (op : OpId) → journal.new.setup ≡ Some setup
         → answer journal.new.past op ≡ Some NotServing → IsNotServed setup journal.new.past op }
     ensures not_serving_always { (setup : SetupState) (op : OpId) → journal.new.setup ≡ Some setup

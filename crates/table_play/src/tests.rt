@@ -45,7 +45,7 @@ const FOUR: &[u8] =
 
 #[test]
 fn plays_worked_scripts(rt: HostRuntime) -> Result<(), Fail> {
-    let cases: [(&[u8], &[u8]); 13] = [
+    let cases: [(&[u8], &[u8]); 17] = [
         (
             FIRST,
             b"table nodes 3 hash 1 shards 1\nop 1 done none 0.1.0:1\nstory \"a\" 1\nend\n",
@@ -105,6 +105,26 @@ fn plays_worked_scripts(rt: HostRuntime) -> Result<(), Fail> {
         (
             b"{\"do\":\"setup\",\"nodes\":1,\"hash\":1}\n{\"do\":\"put\",\"op\":1,\"node\":0,\"key\":\"a\",\"value\":\"x\"}\n{\"do\":\"cas\",\"op\":2,\"node\":0,\"key\":\"a\",\"expect\":\"y\",\"value\":\"z\"}\n{\"do\":\"cas\",\"op\":3,\"node\":0,\"key\":\"a\",\"expect\":\"x\",\"value\":null}\n{\"do\":\"read\",\"op\":4,\"node\":0,\"key\":\"a\"}",
             b"table nodes 1 hash 1 shards 1\nop 1 done none 0.1.0:1\nop 2 done kept \"x\" 0.1.0:2\nop 3 done swapped 0.1.0:3\nop 4 done none 0.1.0:4\nstory \"a\" 1 2 3 4\nend\n",
+        ),
+        // eight shards by hash: the branch is that of the key's shard
+        (
+            b"{\"do\":\"setup\",\"nodes\":1,\"hash\":8,\"shards\":[{\"hash\":[0,1],\"replicas\":[0],\"primary\":0},{\"hash\":[1,2],\"replicas\":[0],\"primary\":0},{\"hash\":[2,3],\"replicas\":[0],\"primary\":0},{\"hash\":[3,4],\"replicas\":[0],\"primary\":0},{\"hash\":[4,5],\"replicas\":[0],\"primary\":0},{\"hash\":[5,6],\"replicas\":[0],\"primary\":0},{\"hash\":[6,7],\"replicas\":[0],\"primary\":0},{\"hash\":[7,8],\"replicas\":[0],\"primary\":0}]}\n{\"do\":\"put\",\"op\":1,\"node\":0,\"key\":\"a\",\"value\":\"x\"}\n{\"do\":\"put\",\"op\":2,\"node\":0,\"key\":\"h\",\"value\":\"x\"}",
+            b"table nodes 1 hash 8 shards 8\nop 1 done none 0.1.1:1\nop 2 done none 0.1.0:1\nstory \"a\" 1\nstory \"h\" 2\nend\n",
+        ),
+        // two shards by key: each is written at its own primary alone
+        (
+            b"{\"do\":\"setup\",\"nodes\":5,\"hash\":1,\"shards\":[{\"to\":\"m\",\"replicas\":[0,1,2],\"primary\":0},{\"from\":\"m\",\"replicas\":[2,3,4],\"primary\":3}]}\n{\"do\":\"put\",\"op\":1,\"node\":0,\"key\":\"a\",\"value\":\"x\"}\n{\"do\":\"put\",\"op\":2,\"node\":3,\"key\":\"z\",\"value\":\"y\"}\n{\"do\":\"flush\"}\n{\"do\":\"put\",\"op\":3,\"node\":3,\"key\":\"a\",\"value\":\"x\"}\n{\"do\":\"put\",\"op\":4,\"node\":0,\"key\":\"z\",\"value\":\"y\"}",
+            b"table nodes 5 hash 1 shards 2\nop 1 done none 0.1.0:1\nop 2 done none 3.1.1:1\nop 3 unavailable not_serving\nop 4 unavailable not_serving\nstory \"a\" 1\nstory \"z\" 2\nend\n",
+        ),
+        // the ack of a replica that does not vote is not enough
+        (
+            b"{\"do\":\"setup\",\"nodes\":3,\"hash\":1,\"shards\":[{\"replicas\":[0,1,2],\"voters\":[0,1],\"primary\":0}]}\n{\"do\":\"put\",\"op\":1,\"node\":0,\"key\":\"a\",\"value\":\"x\"}\n{\"do\":\"deliver\",\"message\":2}\n{\"do\":\"deliver\",\"message\":3}",
+            b"table nodes 3 hash 1 shards 1\nop 1 open\nstory \"a\" 1\nend\n",
+        ),
+        // and that of a voter is
+        (
+            b"{\"do\":\"setup\",\"nodes\":3,\"hash\":1,\"shards\":[{\"replicas\":[0,1,2],\"voters\":[0,1],\"primary\":0}]}\n{\"do\":\"put\",\"op\":1,\"node\":0,\"key\":\"a\",\"value\":\"x\"}\n{\"do\":\"deliver\",\"message\":2}\n{\"do\":\"deliver\",\"message\":3}\n{\"do\":\"deliver\",\"message\":1}\n{\"do\":\"deliver\",\"message\":4}",
+            b"table nodes 3 hash 1 shards 1\nop 1 done none 0.1.0:1\nstory \"a\" 1\nend\n",
         ),
     ];
     for (script, report) in cases {
