@@ -1,7 +1,7 @@
 -- What is planned is due, and rests on an ack.
-use Rattle.std.proofs.Common.{◌≡◌, ◌==◌, ℕ, zero, suc, ◌<◌, Bool, true, false, cond, ◌&&◌, not, List, [], ◌∷◌, length, slice_index_or, Option, Some, None, refl, sym, ap, ◌∙◌, subst, arith}
+use Rattle.std.proofs.Common.{◌≡◌, ◌==◌, ℕ, zero, suc, ◌<◌, Bool, true, false, cond, ◌&&◌, not, List, [], ◌∷◌, length, slice_index_or, Option, Some, None, refl, sym, ap, ◌∙◌, arith}
 use Rattle.std.specs.List.{Contains, list_any}
-use Rattle.std.proofs.lemmas.Bool.{and_parts, and_from, or_left, or_right, both_ways, eqb-true, eq-eqb, false_from_ne_true}
+use Rattle.std.proofs.lemmas.Bool.{and_parts, and_from, or_left, or_right, eqb-true, eq-eqb}
 use Rattle.region_map.specs.declared.id.Id.{Id}
 use Rattle.region_map.specs.declared.id.NodeId.{NodeId}
 use Rattle.region_map.specs.declared.region.Region.{Region}
@@ -16,17 +16,15 @@ use Rattle.contract_types.specs.declared.change.Change.TheVariants.{RegisterBran
 use Rattle.contract_types.specs.declared.contract.Contract.{Contract}
 use Rattle.contract_types.specs.declared.contract.Holder.{Holder}
 use Rattle.contract_types.specs.Tables.{Table}
-use Rattle.table_apply.specs.declared.applied.Applied.{Applied}
 use Rattle.table_apply.specs.declared.applied.Applied.TheVariants.{Taken, Skipped}
 use Rattle.table_apply.specs.declared.applied.Condition.TheVariants.{Tenure, IdNew, BasedOn}
-use Rattle.table_apply.specs.Conditions.{same_regions, is_held_by, has_tenure, is_based_on, is_new_branch}
+use Rattle.table_apply.specs.Conditions.{same_regions, is_held_by, has_tenure, is_based_on}
 use Rattle.table_apply.specs.Effects.{skipped, taken, birth, applied_at}
 use Rattle.table_apply.proofs.Based.{region_self}
-use Rattle.contract_plan.specs.declared.plans.Plan.{Plan}
 use Rattle.contract_plan.specs.declared.plans.Plan.TheVariants.{Keep, Propose}
-use Rattle.contract_plan.specs.Plans.{registers, planned, plan_under, plan_of, wants_branch, rests_on}
+use Rattle.contract_plan.specs.Plans.{planned, plan_under, plan_of, wants_branch, rests_on}
 
-any_at : {X : Type 0} (p : X → Bool) (xs : List X) (k : ℕ) (x : X) → k < length xs → slice_index_or xs k x ≡ x → p x ≡ true → list_any p xs ≡ true
+pub any_at : {X : Type 0} (p : X → Bool) (xs : List X) (k : ℕ) (x : X) → k < length xs → slice_index_or xs k x ≡ x → p x ≡ true → list_any p xs ≡ true
 any_at p [] k x l e t = absurd (omega arith)
 any_at p (y ∷ ys) zero x l e t = or_left (p y) (list_any p ys) (ap p e ∙ t)
 any_at p (y ∷ ys) (suc k) x l e t = or_right (p y) (list_any p ys) (any_at p ys k x (omega arith) e t)

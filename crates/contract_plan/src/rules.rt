@@ -38,7 +38,7 @@ pub fn rests_on(contract: &Contract, state: &TableState, server: NodeId, ack: &A
     is_held_by(&contract.primary, server) && wants_branch(state.history(), ack)
 }
 
-/// The ack of a server.
+/// The ack of a server: the first that stands there.
 fn ack_in(acks: &[ServerAck], server: NodeId) -> Option<&Ack>
     ensures { option_copied result ≡ ack_in acks.now server }
 {
