@@ -4,7 +4,6 @@ ghost use Rattle.raft_vote.specs.Rows.{is_leader};
 ghost use Rattle.raft_node.specs.Committed.{KeepsCommitted};
 ghost use Rattle.raft_node.specs.Rows.{is_full, ends_numbers};
 ghost use Rattle.raft_node.specs.declared.input.RaftInput.TheVariants.{Tick, Deliver};
-ghost use Rattle.contract_types.specs.Configs.{IsConfig};
 ghost use Rattle.table_log.specs.Fitting.{fits, changes_of};
 ghost use Rattle.table_log.specs.Logs.{table_of, begun_log, restarted, may_take, log_step, with_proposed, result_at, acted_once, caught_up, viewed};
 
