@@ -45,12 +45,22 @@ fn table(alloc: Global) -> Result<TableState, Fail> {
     Ok(state)
 }
 
-/// The contract that the shard of a place begins with.
-fn contract(place: u64) -> Id {
-    id(0, 0, place)
+/// A server asks for a branch under the contract that the shard of a place begins with.
+#[derive(Clone, Copy)]
+struct Asked {
+    place: u64,
+    server: u8,
+    branch: Id,
 }
 
-/// An ack that asks for this branch.
+fn ask(place: u64, server: u8, branch: Id) -> Asked {
+    Asked {
+        place,
+        server,
+        branch,
+    }
+}
+
 fn need_branch(alloc: Global, branch: Id) -> Result<Ack, Fail> {
     let based_on = RegionMap::constant(alloc, region(None, None), 1, branch)?;
     let origin = RegionMap::constant(alloc, region(None, None), 1, Version::zero())?;
@@ -61,10 +71,21 @@ fn need_branch(alloc: Global, branch: Id) -> Result<Ack, Fail> {
     })
 }
 
+/// The acks after these servers asked, in this order.
+fn acks_of(alloc: Global, all: &[Asked]) -> Result<Acks, Fail> {
+    let mut acks = Acks::new(alloc);
+    for one in all {
+        let ack = need_branch(alloc, one.branch)?;
+        acks.take(alloc, id(0, 0, one.place), NodeId(one.server), ack)?;
+    }
+    Ok(acks)
+}
+
 /// The branches that are proposed, in order.
-fn proposed(alloc: Global, acks: &mut Acks, state: &TableState) -> Result<Vec<Id>, Fail> {
+fn proposed(alloc: Global, acks: &mut Acks) -> Result<Vec<Id>, Fail> {
+    let state = table(alloc)?;
     let mut branches = Vec::new(alloc);
-    for change in &acks.proposals(alloc, state)? {
+    for change in &acks.proposals(alloc, &state)? {
         if let Change::RegisterBranch { branch, .. } = change {
             branches.push(*branch)?;
         }
@@ -73,52 +94,38 @@ fn proposed(alloc: Global, acks: &mut Acks, state: &TableState) -> Result<Vec<Id
 }
 
 #[test]
-fn without_acks_nothing_is_proposed(rt: HostRuntime) -> Result<(), Fail> {
-    let alloc = rt.alloc();
-    let state = table(alloc)?;
-    let mut acks = Acks::new(alloc);
-    assert!(rt; proposed(alloc, &mut acks, &state)?.is_empty());
-    Ok(())
-}
-
-#[test]
 fn each_primary_has_its_branch_once_in_table_order(rt: HostRuntime) -> Result<(), Fail> {
     let alloc = rt.alloc();
-    let state = table(alloc)?;
     let low = id(0, 1, 7);
     let high = id(1, 1, 9);
-    let mut acks = Acks::new(alloc);
-    acks.take(alloc, contract(1), NodeId(1), need_branch(alloc, high)?)?;
-    acks.take(alloc, contract(0), NodeId(0), need_branch(alloc, low)?)?;
-    let branches = proposed(alloc, &mut acks, &state)?;
+    let mut acks = acks_of(alloc, &[ask(1, 1, high), ask(0, 0, low)])?;
+    let branches = proposed(alloc, &mut acks)?;
     assert_eq!(rt; branches.as_slice(), [low, high].as_slice());
-    assert!(rt; proposed(alloc, &mut acks, &state)?.is_empty());
+    assert!(rt; proposed(alloc, &mut acks)?.is_empty());
     Ok(())
 }
 
 #[test]
-fn acks_that_ask_for_nothing_new_are_kept(rt: HostRuntime) -> Result<(), Fail> {
+fn acks_that_ask_for_nothing_new_lead_to_nothing(rt: HostRuntime) -> Result<(), Fail> {
     let alloc = rt.alloc();
-    let state = table(alloc)?;
     let new = id(0, 1, 7);
-    let mut acks = Acks::new(alloc);
-    acks.take(alloc, contract(0), NodeId(1), need_branch(alloc, new)?)?;
-    acks.take(alloc, contract(5), NodeId(0), need_branch(alloc, new)?)?;
-    acks.take(alloc, contract(0), NodeId(0), need_branch(alloc, new)?)?;
-    let registered = need_branch(alloc, id(0, 1, 0))?;
-    acks.take(alloc, contract(0), NodeId(0), registered)?;
-    assert!(rt; proposed(alloc, &mut acks, &state)?.is_empty());
+    let registered = id(0, 1, 0);
+    let mut none = acks_of(alloc, &[])?;
+    assert!(rt; proposed(alloc, &mut none)?.is_empty());
+    let other_server = ask(0, 1, new);
+    let other_contract = ask(5, 0, new);
+    let mut others = acks_of(alloc, &[other_server, other_contract])?;
+    assert!(rt; proposed(alloc, &mut others)?.is_empty());
+    let mut last = acks_of(alloc, &[ask(0, 0, new), ask(0, 0, registered)])?;
+    assert!(rt; proposed(alloc, &mut last)?.is_empty());
     Ok(())
 }
 
 #[test]
 fn a_new_leader_has_no_acks(rt: HostRuntime) -> Result<(), Fail> {
     let alloc = rt.alloc();
-    let state = table(alloc)?;
-    let mut acks = Acks::new(alloc);
-    let ack = need_branch(alloc, id(0, 1, 7))?;
-    acks.take(alloc, contract(0), NodeId(0), ack)?;
+    let mut acks = acks_of(alloc, &[ask(0, 0, id(0, 1, 7))])?;
     acks.clear();
-    assert!(rt; proposed(alloc, &mut acks, &state)?.is_empty());
+    assert!(rt; proposed(alloc, &mut acks)?.is_empty());
     Ok(())
 }
