@@ -33,7 +33,7 @@ pub struct Primary {
     sessions: Vec<Session>,
     /// The timestamp of the sync that it made under its contract.
     sync: Option<u64>,
-    /// Whether that sync was decided.
+    /// Whether that sync was decided, or none was needed.
     ready: bool,
 }
 
