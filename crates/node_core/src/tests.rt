@@ -1,11 +1,15 @@
-//! A table with a shard for each of two nodes, and its nodes alone.
+//! A table with a shard for each of two nodes: its nodes alone, and how a primary of a later contract starts.
 use crate::{Brought, Node};
-use contract_types::{Setup, ShardConfig, TableConfig};
+use branch_history::Version;
+use contract_types::{Ack, Contract, Setup, ShardConfig, TableConfig, first_contract};
 use exec_types::{Input, Message, Outcome, Output, Outputs};
-use region_map::{Key, NodeId, NodeSet, Region};
+use primary_exec::{Asking, Primary};
+use region_map::{Id, Key, NodeId, NodeSet, Region, RegionMap};
 use register_laws::{Op, OpId, Value};
 use std::alloc::Global;
 use std::test::Fail;
+use store_api::{Item, Row, Store};
+use store_plain::PlainStore;
 
 fn key(alloc: Global, text: &str) -> Result<Key, Fail> {
     let bytes = Vec::from_slice(alloc, text.as_bytes())?;
@@ -114,5 +118,90 @@ fn each_node_serves_its_own_shard(rt: HostRuntime) -> Result<(), Fail> {
     assert!(rt; told(alloc, &done)?.as_str() == "done 0.1.0:1, ");
     let (_one, other) = one.step(alloc, &put(alloc, 3, "z")?, None)?;
     assert!(rt; told(alloc, &other)?.as_str() == "part 2 to 0, 1.1.1:1, ");
+    Ok(())
+}
+
+/// A contract of the keys below m, which node 0 holds and votes on alone.
+fn alone(alloc: Global) -> Result<Contract, Fail> {
+    let mut shard = shard(None, Some(key(alloc, "m")?), 0);
+    shard.voters = NodeSet::empty().with(NodeId(0));
+    Ok(first_contract(alloc, 0, &shard)?)
+}
+
+/// A branch of node 0.
+fn branch(counter: u64) -> Id {
+    Id {
+        node: NodeId(0),
+        life: 1,
+        counter,
+    }
+}
+
+fn at(counter: u64, timestamp: u64) -> Version {
+    Version {
+        branch: Some(branch(counter)),
+        timestamp,
+    }
+}
+
+/// A store with a row that was deleted at timestamp 4 of branch 0.
+fn written(alloc: Global, part: &Region, key: &Key) -> Result<PlainStore, Fail> {
+    let mut store = PlainStore::new(alloc, 1)?;
+    let row = Row {
+        value: None,
+        recency: 4,
+    };
+    let item = Item {
+        key: key.copy(alloc)?,
+        row: Some(row),
+    };
+    store.start_branch(alloc, part, branch(0), 0)?;
+    store.advance(alloc, part, branch(0), 4, Some(item))?;
+    Ok(store)
+}
+
+/// Whether an ack wants branch 1, which goes on from timestamp 4 of branch 0 at one key, and says nothing of another.
+fn asks(ack: &Ack, of: &Key, other: &Key) -> bool {
+    match ack {
+        Ack::NeedBranch {
+            branch: wanted,
+            based_on,
+            origin,
+        } => {
+            let bases = based_on.get(of) == Some(&branch(0)) && based_on.get(other).is_none();
+            let begins = origin.get(of) == Some(&at(0, 4)) && origin.get(other).is_none();
+            *wanted == branch(1) && bases && begins
+        }
+        _ => false,
+    }
+}
+
+#[test]
+fn a_primary_starts_the_branch_that_it_asked_for(rt: HostRuntime) -> Result<(), Fail> {
+    let alloc = rt.alloc();
+    let low = key(alloc, "a")?;
+    let high = key(alloc, "z")?;
+    let contract = alone(alloc)?;
+    let mut store = written(alloc, &contract.region, &low)?;
+    let everything = Region {
+        hash_from: 0,
+        hash_to: 1,
+        from: None,
+        to: None,
+    };
+    let current = RegionMap::constant(alloc, everything, 1, branch(0))?;
+    let asking = Asking {
+        contract,
+        branch: branch(1),
+    };
+    assert!(rt; asks(&asking.ack(alloc, &current, &store)?, &low, &high));
+    let mut primary = Primary::start(alloc, asking, NodeId(0), 5, &mut store)?;
+    assert!(rt; !primary.ready() && matches!(primary.ack(), Ack::InProgress));
+    let mut out = Outputs::new(alloc);
+    primary.decide(&mut out)?;
+    assert!(rt; primary.ready() && matches!(primary.ack(), Ack::Ready));
+    assert!(rt; out.as_slice().is_empty());
+    assert!(rt; store.version(&low) == at(1, 6));
+    assert!(rt; store.get(&low).map(|row| row.recency) == Some(4));
     Ok(())
 }

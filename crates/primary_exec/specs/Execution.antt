@@ -1,15 +1,22 @@
 -- A primary's execution of a contract, and its rows.
-use Rattle.std.specs.Prelude.{◌≡◌, ℕ, ◌==◌, ◌+◌, ◌-◌, ◌^◌, ◌<◌, Bool, true, ◌&&◌, ◌||◌, nat_lt, nat_le, max, min, List, [], ◌∷◌, ◌++◌, map, filter, Option, Some, None, if◌then◌else◌}
+use Rattle.std.specs.Prelude.{◌≡◌, ℕ, ◌==◌, ◌+◌, ◌-◌, ◌^◌, ◌<◌, Bool, true, false, ◌&&◌, ◌||◌, nat_lt, nat_le, max, min, List, [], ◌∷◌, ◌++◌, map, filter, Option, Some, None, if◌then◌else◌}
 use Rattle.std.specs.List.{All, list_any}
 use Rattle.region_map.specs.declared.id.NodeId.{NodeId}
 use Rattle.region_map.specs.declared.id.Id.{Id}
+use Rattle.region_map.specs.Equal.{same_id}
 use Rattle.region_map.specs.Maps.{Pieced}
+use Rattle.region_map.specs.Made.{mask_map}
 use Rattle.region_map.specs.Nodes.{node_id}
 use Rattle.branch_history.specs.declared.version.Version.{Version}
+use Rattle.branch_history.specs.Equal.{same_version}
 use Rattle.register_laws.specs.declared.operation.OpId.{OpId}
 use Rattle.register_laws.specs.declared.operation.Op.{Op}
+use Rattle.register_laws.specs.declared.operation.Reply.TheVariants.{Was}
 use Rattle.register_laws.specs.Register.{reply_of, state_after, writes}
 use Rattle.contract_types.specs.declared.contract.Contract.{Contract}
+use Rattle.contract_types.specs.declared.contract.Holder.{Holder}
+use Rattle.contract_types.specs.declared.ack.Ack.{Ack}
+use Rattle.contract_types.specs.declared.ack.Ack.TheVariants.{NeedBranch, InProgress, Ready}
 use Rattle.contract_types.specs.Tables.{setup_id}
 use Rattle.exec_types.specs.declared.message.SessionName.{SessionName}
 use Rattle.exec_types.specs.declared.message.Got.{Got}
@@ -22,13 +29,15 @@ use Rattle.exec_types.specs.declared.output.Output.TheVariants.{Message, Dispatc
 use Rattle.exec_types.specs.Parts.{effect_of}
 use Rattle.exec_types.specs.Sessions.{same_session, setup_session_name}
 use Rattle.store_api.specs.Rows.{Rows, value_of}
-use Rattle.store_api.specs.Versions.{advanced_rows, advanced_map}
+use Rattle.store_api.specs.Versions.{point, advanced_rows, advanced_map, replaced_map}
 use Rattle.write_dispatch.specs.declared.decided.Decided.{Decided}
-use Rattle.write_dispatch.specs.Dispatch.{DispatchState, Acks, no_acks, with_pending, with_ack, all_below, counts_of, is_decided, pending_of, without_op}
+use Rattle.write_dispatch.specs.Dispatch.{DispatchState, Acks, no_acks, with_pending, with_ack, all_below, is_counted, counts_of, is_decided, pending_of, without_op}
+use Rattle.primary_exec.specs.declared.asking.Asking.{Asking}
 use Rattle.primary_exec.specs.declared.session.Session.{Session}
 
 -- a started execution: its contract, the branch that it writes, the last timestamp that it took, what is
--- pending with the kept acks, and its sessions in rising servers
+-- pending with the kept acks, its sessions in rising servers, the timestamp of the sync that it made under the
+-- contract, and whether that sync was decided
 pub record Execution : Type 0 where
   pub contract : Contract
   pub me : NodeId
@@ -36,6 +45,8 @@ pub record Execution : Type 0 where
   pub last : ℕ
   pub dispatch : DispatchState
   pub sessions : List Session
+  pub sync : Option ℕ
+  pub ready : Bool
 
 -- an execution after its row, the rows and the versions of its node, and what it gave
 pub record PrimaryStep : Type 0 where
@@ -58,10 +69,10 @@ joined x server name =
       dispatch = record x.dispatch { acks = with_ack x.dispatch.acks server.0 0 0 };
     }
 
--- an execution that has taken no timestamp and has no sessions
+-- an execution that has taken no timestamp and has no sessions; with a setup it needs no sync
 abbrev pub begun : Contract → NodeId → Id → Execution
 begun contract me branch =
-    record { contract = contract; me = me; branch = branch; last = 0; dispatch = record { waiting = []; acks = no_acks }; sessions = [] }
+    record { contract = contract; me = me; branch = branch; last = 0; dispatch = record { waiting = []; acks = no_acks }; sessions = []; sync = None; ready = true }
 
 -- the other servers join, in the shard of a place
 abbrev pub join_all : ℕ → Execution → List ℕ → Execution
@@ -119,6 +130,40 @@ parts_end_numbers sessions = list_any (λ s. has_room s && nat_le (2 ^ 62) (s.se
 abbrev pub dispatch_ends_numbers : Execution → Bool
 dispatch_ends_numbers x = nat_le (2 ^ 62) (x.last + 1) || parts_end_numbers x.sessions
 
+-- ---- asking for a branch, and starting it
+
+-- what a primary says while it waits for its branch to be registered: the branch, the branches that it knows as the
+-- current ones of its region, and its own versions there
+abbrev pub needs_branch : Asking → Pieced Id → Pieced Version → Ack
+needs_branch a current versions =
+    NeedBranch a.branch (mask_map same_id a.contract.region current) (mask_map same_version a.contract.region versions)
+
+-- what it says once it is started
+abbrev pub said : Execution → Ack
+said x = if x.ready then Ready else InProgress
+
+-- the branch begins at a timestamp, and a first sync takes the next one
+abbrev pub started : Asking → NodeId → ℕ → Execution
+started a me initial =
+    record {
+      contract = a.contract;
+      me = me;
+      branch = a.branch;
+      last = initial + 1;
+      dispatch = record { waiting = record { op = None; at = initial + 1; reply = Was None } ∷ []; acks = no_acks };
+      sessions = [];
+      sync = Some (initial + 1);
+      ready = false;
+    }
+
+-- the region goes over to the branch, and comes to the sync
+abbrev pub started_versions : Asking → ℕ → Pieced Version → Pieced Version
+started_versions a initial versions =
+    advanced_map a.contract.region a.branch (initial + 1) (replaced_map a.contract.region (point a.branch initial) versions)
+
+abbrev pub start_ends_numbers : ℕ → Bool
+start_ends_numbers initial = nat_le (2 ^ 62) (initial + 1)
+
 -- ---- acknowledgements
 
 -- whether this is the live session with that server
@@ -173,8 +218,25 @@ decided_answers x ds = answers_under x.dispatch.acks x.contract x.me.0 x.branch 
 abbrev pub undecided : Execution → List Decided → List Decided
 undecided x ds = undecided_under x.dispatch.acks x.contract x.me.0 ds
 
+-- whether the sync under the contract is decided
+abbrev pub is_synced : Execution → Option ℕ → Bool
+is_synced x None = false
+is_synced x (Some at) = is_decided x.dispatch.acks x.contract x.me.0 at
+
+-- whether a server to which the region is handed over has all that was taken
+abbrev pub is_handed : Execution → Option NodeId → Bool
+is_handed x None = true
+is_handed x (Some server) = is_counted x.dispatch.acks x.contract.since x.me.0 x.last server.0
+
+abbrev pub hand_over_of : Option Holder → Option NodeId
+hand_over_of None = None
+hand_over_of (Some h) = h.hand_over
+
+abbrev pub becomes_ready : Execution → Bool
+becomes_ready x = is_synced x x.sync && is_handed x (hand_over_of x.contract.primary)
+
 abbrev pub decided : Execution → Execution
-decided x = record x { dispatch = record x.dispatch { waiting = undecided x x.dispatch.waiting } }
+decided x = record x { dispatch = record x.dispatch { waiting = undecided x x.dispatch.waiting }; ready = x.ready || becomes_ready x }
 
 -- each pending operation that is decided is answered
 abbrev pub decide_outs : Execution → List Output

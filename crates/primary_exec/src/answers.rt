@@ -1,6 +1,6 @@
 //! Answers to pending operations.
 ghost use Rattle.std.specs.Prelude.{◌≡◌, ℕ, ◌++◌, OnOk, IsTrue};
-ghost use Rattle.write_dispatch.specs.Dispatch.{pending_of, all_below};
+ghost use Rattle.write_dispatch.specs.Dispatch.{is_decided, pending_of, all_below};
 ghost use Rattle.primary_exec.specs.Execution.{answers, answers_under, undecided_under, given_up, without_given_up};
 ghost use Rattle.primary_exec.specs.Reads.{with_reads, are_reads_of, dispatch_with};
 
@@ -11,7 +11,15 @@ use majority_read::Reads;
 use memory::OutOfMemory;
 use region_map::{Id, NodeId};
 use register_laws::OpId;
-use write_dispatch::{Decided, Pending};
+use write_dispatch::{Decided, Pending, are_majorities};
+
+/// Whether a timestamp is decided under a contract.
+pub fn is_decided(pending: &Pending, at: u64, contract: &Contract, me: NodeId) -> bool
+    ensures { result ≡ is_decided pending.now.acks contract.now me.0 at }
+{
+    let counts = pending.counts(at, contract, me);
+    are_majorities(&counts)
+}
 
 /// Answers one operation that was decided; a sync has none to answer.
 fn answer(done: Decided, branch: Id, out: &mut Outputs) -> Result<(), OutOfMemory>

@@ -1,18 +1,19 @@
 //! A primary's execution of its contract.
 ghost use Rattle.std.specs.Prelude.{◌≡◌, ◌<◌, ◌++◌, ◌↔◌, IfOk, OnOk, IsErrOf, IsTrue};
 ghost use Rattle.store_api.specs.Rows.{has_key};
-ghost use Rattle.primary_exec.specs.Execution.{begun, joined, setup_execution, dispatch_row, dispatch_ends_numbers, got_row, decided, decide_outs, give_up_row, give_up_outs};
+ghost use Rattle.primary_exec.specs.Execution.{begun, joined, setup_execution, started, started_versions, start_ends_numbers, said, dispatch_row, dispatch_ends_numbers, got_row, is_synced, is_handed, hand_over_of, decided, decide_outs, give_up_row, give_up_outs};
 
-use crate::answers::{answer_decided, answer_given_up};
+use crate::answers::{answer_decided, answer_given_up, is_decided};
+use crate::asking::Asking;
 use crate::effect::effect;
 use crate::reads::dispatch;
 use crate::session::{Session, acknowledge, ends_numbers, is_live, send};
-use contract_types::{Contract, setup_id};
+use contract_types::{Ack, Contract, setup_id};
 use exec_types::{Got, Output, Outputs, SessionName};
 use majority_read::Reads;
 use memory::OutOfMemory;
 use region_map::{Id, Key, NUMBERS_END, NodeId, StepRefused};
-use register_laws::{Op, OpId};
+use register_laws::{Op, OpId, Reply};
 use std::alloc::Global;
 use std::marker::Model;
 use store_api::Store;
@@ -30,6 +31,10 @@ pub struct Primary {
     /// The values of the pending reads.
     reads: Reads,
     sessions: Vec<Session>,
+    /// The timestamp of the sync that it made under its contract.
+    sync: Option<u64>,
+    /// Whether that sync was decided, or none was needed.
+    ready: bool,
 }
 
 impl Model for Primary {
@@ -39,13 +44,13 @@ impl Model for Primary {
 
     ghost Value = { Execution };
 
-    ghost view = { λ a. record { contract = a.contract; me = a.me; branch = a.branch; last = a.last; dispatch = dispatch_with a.pending a.reads; sessions = a.sessions.items } };
+    ghost view = { λ a. record { contract = a.contract; me = a.me; branch = a.branch; last = a.last; dispatch = dispatch_with a.pending a.reads; sessions = a.sessions.items; sync = a.sync; ready = a.ready } };
 
     ghost invariant = { λ a. IsSound a.last a.pending.waiting a.sessions.items × IsTrue (are_reads_of a.pending.waiting a.reads) };
 }
 
 impl Primary {
-    /// An execution that has taken no timestamp and has no sessions.
+    /// An execution that has taken no timestamp and has no sessions. With a setup it needs no sync.
     fn begin(alloc: Global, contract: Contract, me: NodeId, branch: Id) -> Primary
         ensures { result ≡ begun contract me branch }
     {
@@ -57,6 +62,8 @@ impl Primary {
             pending: Pending::new(alloc),
             reads: Reads::new(alloc),
             sessions: Vec::new(alloc),
+            sync: None,
+            ready: true,
         }
     }
 
@@ -91,6 +98,59 @@ impl Primary {
             }
         }
         Ok(primary)
+    }
+
+    /// Goes over to its branch, which is registered with this timestamp, and makes a first sync in it.
+    pub fn start<T: Store>(
+        alloc: Global,
+        asking: Asking,
+        me: NodeId,
+        initial: u64,
+        store: &mut T,
+    ) -> Result<Primary, StepRefused>
+        ensures execution { IfOk result (λ primary. primary ≡ started asking me initial) }
+        ensures rows { OnOk result (T.rows store.new ≡ T.rows store.old) }
+        ensures versions { OnOk result (T.versions store.new ≡ started_versions asking initial (T.versions store.old)) }
+        ensures numbers { IsErrOf result StepRefused.NumbersEnd ↔ IsTrue (start_ends_numbers initial) }
+    {
+        if initial >= NUMBERS_END - 1 {
+            return Err(StepRefused::NumbersEnd);
+        }
+        let Asking { contract, branch } = asking;
+        let at = initial + 1;
+        store.start_branch(alloc, &contract.region, branch, initial)?;
+        store.advance(alloc, &contract.region, branch, at, None)?;
+        let mut pending = Pending::new(alloc);
+        pending.dispatch(None, at, Reply::Was(None))?;
+        Ok(Primary {
+            contract,
+            me,
+            branch,
+            last: at,
+            pending,
+            reads: Reads::new(alloc),
+            sessions: Vec::new(alloc),
+            sync: Some(at),
+            ready: false,
+        })
+    }
+
+    /// Whether a sync that it made under its contract was decided; with a setup it needs none.
+    pub fn ready(&self) -> bool
+        ensures { result ≡ self.now.ready }
+    {
+        self.ready
+    }
+
+    /// What it says of its contract.
+    pub fn ack(&self) -> Ack
+        ensures { result ≡ said self.now }
+    {
+        if self.ready {
+            Ack::Ready
+        } else {
+            Ack::InProgress
+        }
     }
 
     /// Whether the region of its contract has the key, where there are so many hashes.
@@ -155,11 +215,37 @@ impl Primary {
         }
     }
 
-    /// Answers each pending operation that is decided.
+    /// Whether the sync under its contract is decided.
+    fn is_synced(&self) -> bool
+        ensures { result ≡ is_synced self.now self.now.sync }
+    {
+        match self.sync {
+            None => false,
+            Some(at) => is_decided(&self.pending, at, &self.contract, self.me),
+        }
+    }
+
+    /// Whether the server to which it hands its region over, if there is one, has all that it took.
+    fn is_handed(&self) -> bool
+        ensures { result ≡ is_handed self.now (hand_over_of self.now.contract.primary) }
+    {
+        let Some(holder) = self.contract.primary else {
+            return true;
+        };
+        match holder.hand_over {
+            None => true,
+            Some(server) => self
+                .pending
+                .counted(server, self.last, &self.contract, self.me),
+        }
+    }
+
+    /// Answers each pending operation that is decided, and is ready once its sync is.
     pub fn decide(&mut self, out: &mut Outputs) -> Result<(), OutOfMemory>
         ensures execution { OnOk result (self.new ≡ decided self.old) }
         ensures out { OnOk result (out.new ≡ out.old ++ decide_outs self.old) }
     {
+        let ready = self.ready || self.is_synced() && self.is_handed();
         answer_decided(
             &mut self.pending,
             &mut self.reads,
@@ -168,6 +254,7 @@ impl Primary {
             self.branch,
             out,
         )?;
+        self.ready = ready;
         Ok(())
     }
 

@@ -5,5 +5,7 @@
 #![tactic(auto)]
 
 pub use following::Following;
+pub use waiting::Waiting;
 
 pub mod following;
+pub mod waiting;
