@@ -79,7 +79,7 @@ Answered-decide_all setup past e rows versions (x ∷ xs) f q =
 
 decided_facts : (setup : SetupState) (past : List Entry) (rows : Rows) (versions : Pieced Version) (x : Execution) → ExecutionFacts setup past rows versions x → ExecutionFacts setup past rows versions (decided x)
 decided_facts setup past rows versions x f =
-    changed setup past rows versions x (decided x).dispatch x.sessions f (undecided_keeps (WaitsWell setup past) x x.dispatch.waiting f.waiting)
+    record { branch = f.branch; stands = f.stands; store = f.store; waiting = undecided_keeps (WaitsWell setup past) x x.dispatch.waiting f.waiting }
 
 -- ---- the facts of a node in a state
 
