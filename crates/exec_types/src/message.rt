@@ -3,8 +3,9 @@ ghost use Rattle.std.specs.Prelude.{◌≡◌, IfOk};
 ghost use Rattle.exec_types.specs.Parts.{timestamp_of, effect_of};
 ghost use Rattle.exec_types.specs.Sessions.{setup_session_name};
 
-use contract_types::setup_id;
+use contract_types::{Ack, Change, setup_id};
 use memory::OutOfMemory;
+use raft_vote::RaftMessage;
 use region_map::{Id, Key, NodeId};
 use std::alloc::Global;
 use store_api::{Item, Row};
@@ -57,8 +58,12 @@ pub struct Got {
 }
 
 /// One message.
-#[derive(Debug, Drop)]
+#[derive(Drop)]
 pub enum Message {
+    /// What the nodes of the log send to one another.
+    Raft(RaftMessage<Change>),
+    /// A replica tells the leader how far it is under the contract of this id.
+    Say { contract: Id, ack: Ack },
     Stream(Stream),
     Got(Got),
 }
@@ -111,6 +116,11 @@ impl Message {
         ensures { IfOk result (λ message. message ≡ self.now) }
     {
         match self {
+            Message::Raft(message) => Ok(Message::Raft(message.copy(alloc)?)),
+            Message::Say { contract, ack } => Ok(Message::Say {
+                contract: *contract,
+                ack: ack.copy(alloc)?,
+            }),
             Message::Stream(stream) => {
                 let part = stream.part.copy(alloc)?;
                 Ok(Message::Stream(Stream {

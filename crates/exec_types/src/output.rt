@@ -7,10 +7,11 @@ use region_map::{Id, Key, NodeId};
 use register_laws::OpId;
 use std::alloc::Global;
 use std::marker::Model;
+use table_log::Results;
 
 /// One output. Outputs of a step stand in the order of these variants, and those of one kind in the order in
 /// which the step makes them.
-#[derive(Debug, Drop)]
+#[derive(Drop)]
 pub enum Output {
     /// A message to a node.
     Message {
@@ -24,6 +25,11 @@ pub enum Output {
         branch: Id,
         timestamp: u64,
     },
+    /// The node acted on the changes of the log from this index on, and this became of them.
+    Viewed {
+        first: u64,
+        results: Results,
+    },
     /// The client is told what became of its operation.
     Answer {
         op: OpId,
@@ -32,7 +38,7 @@ pub enum Output {
 }
 
 /// The outputs of one step, seen as a list.
-#[derive(Debug, Drop)]
+#[derive(Drop)]
 pub struct Outputs {
     items: Vec<Output>,
 }

@@ -10,7 +10,7 @@ use std::alloc::Global;
 use std::marker::Model;
 
 /// One step of one node.
-#[derive(Debug, Drop)]
+#[derive(Drop)]
 pub struct Entry {
     pub node: NodeId,
     pub input: Input,
@@ -18,7 +18,7 @@ pub struct Entry {
 }
 
 /// A setup and the steps of all nodes since, in one order. Contracts see the entries with the newest first.
-#[derive(Debug, Drop)]
+#[derive(Drop)]
 pub struct Journal {
     setup: Option<Setup>,
     entries: Vec<Entry>,

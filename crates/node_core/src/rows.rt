@@ -83,22 +83,23 @@ pub fn take_stream(
     alloc: Global,
     from: NodeId,
     stream: &Stream,
+    view: u64,
     out: &mut Outputs,
 ) -> Result<(), StepRefused>
     ensures followings { OnOk result (followings.new
-        ≡ (stream_all followings.old store.old.rows store.old.versions from stream.now 0).followings) }
+        ≡ (stream_all followings.old store.old.rows store.old.versions from stream.now view).followings) }
     ensures rows { OnOk result (store.new.rows
-        ≡ (stream_all followings.old store.old.rows store.old.versions from stream.now 0).rows) }
+        ≡ (stream_all followings.old store.old.rows store.old.versions from stream.now view).rows) }
     ensures versions { OnOk result (store.new.versions
-        ≡ (stream_all followings.old store.old.rows store.old.versions from stream.now 0).versions) }
+        ≡ (stream_all followings.old store.old.rows store.old.versions from stream.now view).versions) }
     ensures out { OnOk result (out.new
-        ≡ out.old ++ (stream_all followings.old store.old.rows store.old.versions from stream.now 0).outs) }
+        ≡ out.old ++ (stream_all followings.old store.old.rows store.old.versions from stream.now view).outs) }
     ensures numbers { IsErrOf result StepRefused.NumbersEnd ↔ IsTrue (streams_end_numbers followings.old from stream.now) }
 {
     let Some(place) = place_of(followings, from, stream) else {
         return Ok(());
     };
-    followings[place].stream(alloc, from, stream, 0, store, out)?;
+    followings[place].stream(alloc, from, stream, view, store, out)?;
     Ok(())
 }
 

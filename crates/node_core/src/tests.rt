@@ -50,10 +50,20 @@ fn put(alloc: Global, op: u64, text: &str) -> Result<Input, Fail> {
     })
 }
 
+/// An ack in words.
+fn needs(alloc: Global, ack: &Ack, to: NodeId) -> Result<String, Fail> {
+    match ack {
+        Ack::NeedBranch { branch, .. } => Ok(format!(in alloc; "needs {branch} to {}", to.0)?),
+        _ => Ok(format!(in alloc; "other to {}", to.0)?),
+    }
+}
+
 /// One output in words.
 fn said(alloc: Global, output: &Output) -> Result<String, Fail> {
     let text = match output {
         Output::Message { to, message } => match message {
+            Message::Raft(_) => format!(in alloc; "log to {}", to.0)?,
+            Message::Say { ack, .. } => needs(alloc, ack, *to)?,
             Message::Stream(stream) => format!(in alloc; "part {} to {}", stream.number, to.0)?,
             Message::Got(got) => format!(in alloc; "got {} to {}", got.upto, to.0)?,
         },
@@ -62,6 +72,7 @@ fn said(alloc: Global, output: &Output) -> Result<String, Fail> {
             timestamp,
             ..
         } => format!(in alloc; "{branch}:{timestamp}")?,
+        Output::Viewed { first, .. } => format!(in alloc; "viewed {first}")?,
         Output::Answer { outcome, .. } => match outcome {
             Outcome::Done {
                 branch,
@@ -203,5 +214,35 @@ fn a_primary_starts_the_branch_that_it_asked_for(rt: HostRuntime) -> Result<(), 
     assert!(rt; out.as_slice().is_empty());
     assert!(rt; store.version(&low) == at(1, 6));
     assert!(rt; store.get(&low).map(|row| row.recency) == Some(4));
+    Ok(())
+}
+
+/// A node of a table of one node alone, as it begins.
+fn only(alloc: Global) -> Result<Node, Fail> {
+    let setup = Setup::whole(alloc, 1, 1)?;
+    Ok(Node::begin(alloc, &setup, NodeId(0))?)
+}
+
+/// A node after it went down, came up and saw time pass, and what it gave at the tick.
+fn comes_back(alloc: Global, node: Node) -> Result<(Node, Outputs), Fail> {
+    let (node, _) = node.step(alloc, &Input::Crash, None)?;
+    let (node, _) = node.step(alloc, &Input::Restart, None)?;
+    Ok(node.step(alloc, &Input::Tick, None)?)
+}
+
+#[test]
+fn a_node_that_comes_up_goes_on_in_a_branch_of_its_own(rt: HostRuntime) -> Result<(), Fail> {
+    let alloc = rt.alloc();
+    let (node, asked) = comes_back(alloc, only(alloc)?)?;
+    assert!(rt; told(alloc, &asked)?.as_str() == "needs 0.2.0 to 0, viewed 1, ");
+    let (node, asked) = comes_back(alloc, node)?;
+    assert!(rt; told(alloc, &asked)?.as_str() == "needs 0.3.0 to 0, viewed 2, ");
+    let say = first(alloc, 0, &asked)?;
+    let (node, kept) = node.step(alloc, &Input::Deliver { message: 2 }, say)?;
+    assert!(rt; told(alloc, &kept)?.as_str() == "");
+    let (node, started) = node.step(alloc, &Input::Tick, None)?;
+    assert!(rt; told(alloc, &started)?.as_str() == "needs 0.3.0 to 0, viewed 3, ");
+    let (_node, done) = node.step(alloc, &put(alloc, 1, "a")?, None)?;
+    assert!(rt; told(alloc, &done)?.as_str() == "0.3.0:2, done 0.3.0:2, ");
     Ok(())
 }

@@ -135,6 +135,13 @@ impl Primary {
         })
     }
 
+    /// The contract in force.
+    pub fn contract(&self) -> &Contract
+        ensures { result.now ≡ self.now.contract }
+    {
+        &self.contract
+    }
+
     /// Whether a sync that it made under its contract was decided; with a setup it needs none.
     pub fn ready(&self) -> bool
         ensures { result ≡ self.now.ready }

@@ -110,9 +110,8 @@ impl Following {
     }
 
     /// Tells the primary how far this secondary came.
-    fn acknowledge(&self, view: u64, out: &mut Outputs) -> Result<(), StepRefused>
-        ensures ok { OnOk result (out.new ≡ out.old ++ acknowledgement self.now view ∷ []) }
-        ensures memory { IsErrOf result StepRefused.NumbersEnd → ⊥ }
+    pub fn acknowledge(&self, view: u64, out: &mut Outputs) -> Result<(), OutOfMemory>
+        ensures { OnOk result (out.new ≡ out.old ++ acknowledgement self.now view ∷ []) }
     {
         let got = Got {
             session: self.session,

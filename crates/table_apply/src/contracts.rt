@@ -75,7 +75,7 @@ fn same_bounds(a: &Option<Key>, b: &Option<Key>) -> bool
 }
 
 /// Whether two regions are the same.
-pub(crate) fn same_regions(a: &Region, b: &Region) -> bool
+pub fn same_regions(a: &Region, b: &Region) -> bool
     ensures { result ≡ same_regions a.now b.now }
 {
     (a.hash_from == b.hash_from && a.hash_to == b.hash_to)
@@ -83,7 +83,7 @@ pub(crate) fn same_regions(a: &Region, b: &Region) -> bool
 }
 
 /// Whether a server is the primary.
-pub(crate) fn is_held_by(primary: &Option<Holder>, server: NodeId) -> bool
+pub fn is_held_by(primary: &Option<Holder>, server: NodeId) -> bool
     ensures { result ≡ is_held_by primary.now server }
 {
     match primary {

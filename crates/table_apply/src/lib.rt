@@ -7,6 +7,7 @@
 
 pub use applied::{Applied, Condition};
 pub use beginnings::{branches_begin_in_time, contracts_last};
+pub use contracts::{is_held_by, same_regions};
 pub use laws::{
     a_branch_is_registered_in_its_tenure, a_table_follows_from_its_changes,
     branches_are_compared_at_every_pair, contracts_are_past, contracts_follow,
