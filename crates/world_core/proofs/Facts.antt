@@ -9,13 +9,14 @@ use Rattle.register_laws.specs.declared.operation.Op.{Op}
 use Rattle.register_laws.specs.declared.operation.Reply.{Reply}
 use Rattle.register_laws.specs.Lists.{same_op}
 use Rattle.exec_types.specs.declared.input.Input.{Input}
-use Rattle.exec_types.specs.declared.input.Input.TheVariants.{Request, GiveUp, Deliver}
+use Rattle.exec_types.specs.declared.input.Input.TheVariants.{Request, GiveUp, See, Tick, Deliver, Crash, Restart}
 use Rattle.exec_types.specs.declared.outcome.Outcome.{Outcome}
 use Rattle.exec_types.specs.declared.outcome.Outcome.TheVariants.{Done, NotServing, NoMajority}
 use Rattle.node_core.specs.declared.journal.Entry.{Entry}
 use Rattle.write_dispatch.specs.declared.decided.Decided.{Decided}
 use Rattle.world_core.specs.Run.{requests, is_requested, is_fresh}
-use Rattle.world_core.specs.Story.{Point, IsIn, answer_in, or_else, answer, is_answered_outcome, is_answered, points, points_of, path, is_on_path, Requests, IsRequested}
+use Rattle.world_core.specs.Story.{Point, IsIn, answer_in, or_else, answer, is_answered_outcome, is_answered, points, points_of, Requests, IsRequested}
+use Rattle.world_core.proofs.Begun.{is_on_begun, begun_path}
 use Rattle.world_core.proofs.Told.{has_point, point_times, point_times-append, has_point-append, TookEffect, TookEffect-more, filter-append, IsIn-append}
 
 -- ---- operations and requests
@@ -29,7 +30,11 @@ same_op-refl a = eq-eqb a.0 a.0 refl
 pub Requests-test : (input : Input) (key : List ℕ) (op : OpId) (what : Op) → Requests input key op what → requests input op ≡ true
 Requests-test (Request q k w) key op what h = ap (λ (o : OpId). same_op q o) (sym h.0) ∙ same_op-refl q
 Requests-test (GiveUp q) key op what h = absurd h
+Requests-test (See other up) key op what h = absurd h
+Requests-test Tick key op what h = absurd h
 Requests-test (Deliver number) key op what h = absurd h
+Requests-test Crash key op what h = absurd h
+Requests-test Restart key op what h = absurd h
 
 pub IsRequested-test : (past : List Entry) (key : List ℕ) (op : OpId) (what : Op) → IsRequested past key op what → is_requested past op ≡ true
 IsRequested-test [] key op what h = absurd h
@@ -46,7 +51,11 @@ fresh_apart past (Request q k w) op f r h =
     let old : is_requested past q ≡ true = ap (is_requested past) same ∙ h in
     false≢true (sym (ap not old) ∙ f)
 fresh_apart past (GiveUp q) op f r h = false≢true r
+fresh_apart past (See other up) op f r h = false≢true r
+fresh_apart past Tick op f r h = false≢true r
 fresh_apart past (Deliver number) op f r h = false≢true r
+fresh_apart past Crash op f r h = false≢true r
+fresh_apart past Restart op f r h = false≢true r
 
 -- ---- points
 
@@ -72,13 +81,13 @@ has_point_of (p ∷ ps) op h =
 -- an operation that was requested took effect with this reply
 abbrev pub Waits : SetupState → List Entry → Option OpId → Reply → Type 0
 Waits setup past None reply = Unit {0}
-Waits setup past (Some op) reply = (key : List ℕ) × (what : Op) × IsRequested past key op what × TookEffect (path setup past key) op what reply
+Waits setup past (Some op) reply = (key : List ℕ) × (what : Op) × IsRequested past key op what × TookEffect (begun_path setup past key) op what reply
 
 pub record WaitsWell (setup : SetupState) (past : List Entry) (d : Decided) : Type 0 where
   pub waits : Waits setup past d.op d.reply
 
-pub path-cons : (setup : SetupState) (past : List Entry) (e : Entry) (key : List ℕ) → path setup (e ∷ past) key ≡ path setup past key ++ filter (is_on_path setup key) (points_of e.input e.outputs)
-path-cons setup past e key = filter-append (is_on_path setup key) (points past) (points_of e.input e.outputs)
+pub path-cons : (setup : SetupState) (past : List Entry) (e : Entry) (key : List ℕ) → begun_path setup (e ∷ past) key ≡ begun_path setup past key ++ filter (is_on_begun setup key) (points_of e.input e.outputs)
+path-cons setup past e key = filter-append (is_on_begun setup key) (points past) (points_of e.input e.outputs)
 
 pub Waits-more : (setup : SetupState) (past : List Entry) (e : Entry) (op : Option OpId) (reply : Reply) → Waits setup past op reply → Waits setup (e ∷ past) op reply
 Waits-more setup past e None reply h = tt
@@ -87,7 +96,7 @@ Waits-more setup past e (Some op) reply h = (
   h.1,
   inr h.2,
   subst (λ (l : List Point). TookEffect l op h.1 reply) (sym (path-cons setup past e h.0))
-      (TookEffect-more (path setup past h.0) op h.1 reply (filter (is_on_path setup h.0) (points_of e.input e.outputs)) h.3),
+      (TookEffect-more (begun_path setup past h.0) op h.1 reply (filter (is_on_begun setup h.0) (points_of e.input e.outputs)) h.3),
 )
 
 pub WaitsWell-more : (setup : SetupState) (past : List Entry) (e : Entry) (ds : List Decided) → AllByRecursion (WaitsWell setup past) ds → AllByRecursion (WaitsWell setup (e ∷ past)) ds

@@ -1,4 +1,4 @@
--- "No majority" is answered only where a pending operation was given up, with the counts that it then had.
+-- In a quiet run "no majority" is answered only where a pending operation was given up, with the counts that it then had.
 use Rattle.std.proofs.Common.{◌≡◌, ℕ, ◌+◌, ◌≤◌, true, false, cond, List, [], ◌∷◌, ◌++◌, map, filter, Option, Some, None, refl, sym, ap, ◌∙◌, subst, inl, inr, arith}
 use Rattle.std.proofs.lemmas.Bool.{cond_both, eq-eqb, ltb-true}
 use Rattle.region_map.specs.declared.id.Id.{Id}
@@ -11,7 +11,7 @@ use Rattle.register_laws.specs.Lists.{same_op}
 use Rattle.contract_types.specs.Setup.{SetupState}
 use Rattle.contract_types.specs.declared.counts.Counts.{Counts}
 use Rattle.exec_types.specs.declared.input.Input.{Input}
-use Rattle.exec_types.specs.declared.input.Input.TheVariants.{Request, GiveUp, Deliver}
+use Rattle.exec_types.specs.declared.input.Input.TheVariants.{Request, GiveUp, See, Tick, Deliver, Crash, Restart}
 use Rattle.exec_types.specs.declared.message.Message.{Message as Sent}
 use Rattle.exec_types.specs.declared.message.Message.TheVariants as message
 use Rattle.exec_types.specs.declared.message.Part.{Part}
@@ -30,12 +30,14 @@ use Rattle.secondary_exec.specs.Stream.{stream_row, is_ours}
 use Rattle.node_core.specs.declared.node.Brought.{Brought}
 use Rattle.node_core.specs.declared.journal.Entry.{Entry}
 use Rattle.node_core.specs.Parts.{Requested, Streamed, is_for, dispatched, passed_on, request_all, taken, left_alone, stream_all, give_up_all_outs, decide_all_outs}
-use Rattle.node_core.specs.Step.{NodeState, Stepped, silent, message_row, is_well_formed, brought_row, input_row, node_step}
+use Rattle.node_core.specs.Step.{NodeState, Stepped, silent}
+use Rattle.world_core.specs.Quiet.{are_quiet}
 use Rattle.world_core.specs.Run.{brought, state, IsRun}
 use Rattle.world_core.specs.Story.{answer_in, or_else, answer}
 use Rattle.world_core.specs.GivenUp.{counts_pending, or_counts, pending_counts, IsGivenUpBy, IsGivenUp}
 use Rattle.world_core.proofs.Facts.{same_op-true}
 use Rattle.world_core.proofs.Outs.{answer_in-append, answer_in-sends, answer_in-stream}
+use Rattle.world_core.proofs.Plain.{plain_message, is_from_table, plain_brought, plain_row, plain_step, quiet_past, quiet_outs}
 use Rattle.world_core.proofs.Single.{one_if, waits_in, waits_over, given_leaves, waits_once}
 use Rattle.world_core.proofs.Table.{node_within}
 
@@ -140,48 +142,54 @@ Tells-stream P (f ∷ fs) rows versions from stream op =
     (λ _. subst (λ (v : Option Outcome). Tells P v) (sym (answer_in-stream f rows versions from stream 0 op)) tt)
     (λ _. Tells-stream P fs rows versions from stream op)
 
-Tells-message : (P : Counts → Type 0) (s : NodeState) (from : NodeId) (m : Sent) (op : OpId) → Tells P (answer_in (message_row s from m).outs op)
+Tells-message : (P : Counts → Type 0) (s : NodeState) (from : NodeId) (m : Sent) (op : OpId) → Tells P (answer_in (plain_message s from m).outs op)
+Tells-message P s from (message.Raft m) op = tt
+Tells-message P s from (message.Say contract ack) op = tt
 Tells-message P s from (message.Stream stream) op = Tells-stream P s.followings s.rows s.versions from stream op
 Tells-message P s from (message.Got got) op = tt
 
-Tells-brought : (P : Counts → Type 0) (s : NodeState) (b : Option Brought) (op : OpId) → Tells P (answer_in (brought_row s b).outs op)
+Tells-brought : (P : Counts → Type 0) (s : NodeState) (b : Option Brought) (op : OpId) → Tells P (answer_in (plain_brought s b).outs op)
 Tells-brought P s None op = tt
 Tells-brought P s (Some b) op =
-    cond_both (is_well_formed s b) (message_row s b.from b.message) (silent s) (λ (step : Stepped). Tells P (answer_in step.outs op))
+    cond_both (is_from_table s b) (plain_message s b.from b.message) (silent s) (λ (step : Stepped). Tells P (answer_in step.outs op))
     (λ _. Tells-message P s b.from b.message op) (λ _. tt)
 
 -- the counts of what is given up, which are no majorities
 abbrev pub IsShort : NodeState → Input → OpId → Counts → Type 0
 IsShort s input op counts = IsGivenUpBy s input op counts × (are_majorities counts ≡ false)
 
-Tells-row : (s : NodeState) (input : Input) (b : Option Brought) (op : OpId) → ((q : OpId) → waits_over s.executions q ≤ 1) → Tells (IsShort s input op) (answer_in (input_row s input b).outs op)
+Tells-row : (s : NodeState) (input : Input) (b : Option Brought) (op : OpId) → ((q : OpId) → waits_over s.executions q ≤ 1) → Tells (IsShort s input op) (answer_in (plain_row s input b).outs op)
 Tells-row s (Request q key what) b op once = Tells-request (IsShort s (Request q key what) op) s.setup.hashes s.executions s.rows s.versions q key what op
 Tells-row s (GiveUp q) b op once =
     Tells-give_up (IsShort s (GiveUp q) op) s.executions q op (once q)
     (λ counts is same short.
     let one : q ≡ op = same_op-true q op same in
     ((one, ap (pending_counts s.executions) (sym one) ∙ is), short))
+Tells-row s (See other up) b op once = tt
+Tells-row s Tick b op once = tt
 Tells-row s (Deliver number) b op once = Tells-brought (IsShort s (Deliver number) op) s b op
+Tells-row s Crash b op once = tt
+Tells-row s Restart b op once = tt
 
 -- ---- runs
 
-Tells-step : (s : NodeState) (input : Input) (b : Option Brought) (op : OpId) → ((q : OpId) → waits_over s.executions q ≤ 1) → Tells (IsShort s input op) (answer_in (node_step s input b).outs op)
+Tells-step : (s : NodeState) (input : Input) (b : Option Brought) (op : OpId) → ((q : OpId) → waits_over s.executions q ≤ 1) → Tells (IsShort s input op) (answer_in (plain_step s input b).outs op)
 Tells-step s input b op once =
-    let step : Stepped = input_row s input b in
+    let step : Stepped = plain_row s input b in
     Tells-append (IsShort s input op) step.outs (decide_all_outs step.node.executions) op (Tells-row s input b op once) (Tells-all_decided (IsShort s input op) step.node.executions op)
 
 -- an operation whose answer is that it has no majority was given up with these counts, and they are none
-pub no_majority_given_up : (setup : SetupState) (past : List Entry) → IsRun setup past → (op : OpId) (counts : Counts) → answer past op ≡ Some (NoMajority counts)
+pub no_majority_given_up : (setup : SetupState) (past : List Entry) → IsRun setup past → are_quiet past ≡ true → (op : OpId) (counts : Counts) → answer past op ≡ Some (NoMajority counts)
     → IsGivenUp setup past op counts × (are_majorities counts ≡ false)
-no_majority_given_up setup [] h op counts a = cc
-no_majority_given_up setup (e ∷ past) h op counts a =
+no_majority_given_up setup [] h quiet op counts a = cc
+no_majority_given_up setup (e ∷ past) h quiet op counts a =
     elim (answer past op) as (λ v. answer past op ≡ v → or_else v (answer_in e.outputs op) ≡ Some (NoMajority counts) → IsGivenUp setup (e ∷ past) op counts × (are_majorities counts ≡ false)) [
-      | Some outcome ↦ λ is k. let r = no_majority_given_up setup past h.1 op counts (is ∙ k) in (inr r.0, r.1)
+      | Some outcome ↦ λ is k. let r = no_majority_given_up setup past h.1 (quiet_past e past quiet) op counts (is ∙ k) in (inr r.0, r.1)
       | None ↦ λ _ k.
           let s : NodeState = state setup e.node.0 past in
           let b : Option Brought = brought past e.input in
-          let once = λ (q : OpId). waits_once setup past h.1 e.node.0 q (ltb-true e.node.0 setup.nodes (node_within setup past e h.0)) in
-          let said : answer_in (node_step s e.input b).outs op ≡ Some (NoMajority counts) = ap (λ (l : List Output). answer_in l op) (sym h.0.outputs) ∙ k in
+          let once = λ (q : OpId). waits_once setup past h.1 (quiet_past e past quiet) e.node.0 q (ltb-true e.node.0 setup.nodes (node_within setup past e h.0)) in
+          let said : answer_in (plain_step s e.input b).outs op ≡ Some (NoMajority counts) = ap (λ (l : List Output). answer_in l op) (sym (quiet_outs setup past e h quiet)) ∙ k in
           let w : IsShort s e.input op counts = subst (λ (v : Option Outcome). Tells (IsShort s e.input op) v) said (Tells-step s e.input b op once) in
           (inl w.0, w.1)
     ] refl a

@@ -16,7 +16,7 @@ use Rattle.primary_exec.specs.Execution.{Execution}
 use Rattle.node_core.specs.declared.journal.Entry.{Entry}
 use Rattle.node_core.specs.Parts.{is_for}
 use Rattle.node_core.specs.Step.{executions_from, followings_from}
-use Rattle.world_core.specs.Story.{branch_of, path}
+use Rattle.world_core.proofs.Begun.{begun_branch, begun_path}
 use Rattle.world_core.proofs.Told.{after}
 use Rattle.world_core.proofs.Facts.{WaitsWell, WaitsWell-more}
 use Rattle.world_core.proofs.Setups.{exec_region, following_region}
@@ -69,9 +69,9 @@ some_holds hashes key (x ∷ xs) e =
 -- a key's point is on the branch of the execution that has it in its region; the region stands where the branch is,
 -- its rows are the values of the paths, and what is pending waits well
 pub record ExecutionFacts (setup : SetupState) (past : List Entry) (rows : Rows) (versions : Pieced Version) (x : Execution) : Type 0 where
-  pub branch : (key : List ℕ) → is_for setup.hashes key x ≡ true → branch_of setup key ≡ Some x.branch
+  pub branch : (key : List ℕ) → is_for setup.hashes key x ≡ true → begun_branch setup key ≡ Some x.branch
   pub stands : (h : ℕ) (k : List ℕ) → h < setup.hashes → in_region x.contract.region h k ≡ true → value_at versions.pieces h k ≡ Some (point x.branch x.last)
-  pub store : (key : List ℕ) → is_for setup.hashes key x ≡ true → value_of rows key ≡ after None (path setup past key)
+  pub store : (key : List ℕ) → is_for setup.hashes key x ≡ true → value_of rows key ≡ after None (begun_path setup past key)
   pub waiting : AllByRecursion (WaitsWell setup past) x.dispatch.waiting
 
 abbrev pub AllRun : SetupState → List Entry → Rows → Pieced Version → List Execution → Type 0
@@ -93,7 +93,7 @@ pub record StoreStays (hashes : ℕ) (count : ℕ → List ℕ → ℕ) (rows la
 
 -- the paths stay
 pub record PathsStay (setup : SetupState) (count : ℕ → List ℕ → ℕ) (past : List Entry) (e : Entry) : Type 0 where
-  pub stays : (key : List ℕ) → count (hash_of key setup.hashes) key ≡ 0 → path setup (e ∷ past) key ≡ path setup past key
+  pub stays : (key : List ℕ) → count (hash_of key setup.hashes) key ≡ 0 → begun_path setup (e ∷ past) key ≡ begun_path setup past key
 
 -- an execution keeps its facts where nothing of its region counts
 pub kept : (setup : SetupState) (past : List Entry) (e : Entry) (count : ℕ → List ℕ → ℕ) (rows later : Rows) (versions newer : Pieced Version) (x : Execution)

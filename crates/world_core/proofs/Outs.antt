@@ -16,7 +16,7 @@ use Rattle.exec_types.specs.declared.message.Stream.{Stream}
 use Rattle.exec_types.specs.declared.outcome.Outcome.{Outcome}
 use Rattle.exec_types.specs.declared.outcome.Outcome.TheVariants.{Done}
 use Rattle.exec_types.specs.declared.output.Output.{Output}
-use Rattle.exec_types.specs.declared.output.Output.TheVariants.{Message, Dispatched, Answer}
+use Rattle.exec_types.specs.declared.output.Output.TheVariants.{Message, Dispatched, Viewed, Answer}
 use Rattle.store_api.specs.Rows.{Rows}
 use Rattle.write_dispatch.specs.declared.decided.Decided.{Decided}
 use Rattle.write_dispatch.specs.Dispatch.{pending_of, without_op, is_of}
@@ -36,12 +36,14 @@ points_in-append what [] b = refl
 points_in-append what (Message to message ∷ a) b = points_in-append what a b
 points_in-append what (Dispatched op key branch timestamp ∷ a) b =
     ap (λ (l : List Point). record { op = op; what = what; key = key; branch = branch; timestamp = timestamp } ∷ l) (points_in-append what a b)
+points_in-append what (Viewed first results ∷ a) b = points_in-append what a b
 points_in-append what (Answer op outcome ∷ a) b = points_in-append what a b
 
 pub answer_in-append : (a b : List Output) (op : OpId) → answer_in (a ++ b) op ≡ or_else (answer_in a op) (answer_in b op)
 answer_in-append [] b op = refl
 answer_in-append (Message to message ∷ a) b op = answer_in-append a b op
 answer_in-append (Dispatched q key branch timestamp ∷ a) b op = answer_in-append a b op
+answer_in-append (Viewed first results ∷ a) b op = answer_in-append a b op
 answer_in-append (Answer q outcome ∷ a) b op =
     elim (same_op q op) as (λ c. cond c (Some outcome) (answer_in (a ++ b) op) ≡ or_else (cond c (Some outcome) (answer_in a op)) (answer_in b op)) [
       | true ↦ refl

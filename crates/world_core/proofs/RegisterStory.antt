@@ -9,10 +9,12 @@ use Rattle.register_laws.specs.declared.operation.Reply.{Reply}
 use Rattle.register_laws.specs.declared.operation.Told.{Told}
 use Rattle.register_laws.specs.Lists.{is_read, same_op}
 use Rattle.exec_types.specs.declared.input.Input.{Input}
-use Rattle.exec_types.specs.declared.input.Input.TheVariants.{Request, GiveUp, Deliver}
+use Rattle.exec_types.specs.declared.input.Input.TheVariants.{Request, GiveUp, See, Tick, Deliver, Crash, Restart}
 use Rattle.exec_types.specs.declared.outcome.Outcome.TheVariants.{Done, NotServing}
 use Rattle.node_core.specs.declared.journal.Entry.{Entry}
-use Rattle.world_core.specs.Story.{Point, IsIn, times, has_told, StandsOnce, stands_before, answer_in, or_else, answer, is_done_outcome, is_done, goes_before, points, points_of, same_key, branch_of, is_branch, is_on_path, path, is_shown, is_shown_point, story, Requests, IsRequested, keep_done, up_to_done, KeepsDone, IsRegisterStory}
+use Rattle.world_core.specs.Story.{Point, IsIn, times, has_told, StandsOnce, stands_before, answer_in, or_else, answer, is_done_outcome, is_done, goes_before, points, points_of, same_key, is_shown, is_shown_point, is_shown_told, story, Requests, IsRequested, keep_done, up_to_done, IsRegisterStory}
+use Rattle.world_core.specs.Stored.{is_branch}
+use Rattle.world_core.proofs.Begun.{begun_branch, is_on_begun, begun_path, begun_story, KeepsBegun}
 use Rattle.world_core.proofs.Told.{after, told, legal_told, told-append, LeavesReads, at_point, at_told, told-filter, filter-append, filter-filter, filter_stricter, IsIn-filter, IsIn-told, times-told, point_times-filter, has_point, has_told-told, stands_before-told, point_before, TookEffect, TookEffect-told}
 use Rattle.world_core.proofs.Facts.{same_op-refl, Requests-test, IsRequested-test, fresh_apart, History}
 use Rattle.world_core.proofs.Orders.{AddsAlong, History-along, in_order}
@@ -45,7 +47,11 @@ one_request setup (e ∷ past) h op key k what w r s =
     same : (input : Input) (op : OpId) (key k : List ℕ) (what w : Op) → Requests input key op what → Requests input k op w → (key ≡ k) × (what ≡ w)
     same (Request q a b) op key k what w r s = (sym r.1 ∙ s.1, sym r.2 ∙ s.2)
     same (GiveUp q) op key k what w r s = absurd r
+    same (See other up) op key k what w r s = absurd r
+    same Tick op key k what w r s = absurd r
     same (Deliver n) op key k what w r s = absurd r
+    same Crash op key k what w r s = absurd r
+    same Restart op key k what w r s = absurd r
 
 -- ---- which points a story shows
 
@@ -92,28 +98,28 @@ IsIn_times (u ∷ us) t h =
       | inr i ↦ omega (arith, IsIn_times us t i)
     ]
 
-story_times : (setup : SetupState) (past : List Entry) → History setup past → (key : List ℕ) (op : OpId) → times (story setup past key) op ≤ 1
+story_times : (setup : SetupState) (past : List Entry) → History setup past → (key : List ℕ) (op : OpId) → times (begun_story setup past key) op ≤ 1
 story_times setup past h key op =
-    let e = times-told None (filter (is_shown_point past) (path setup past key)) op in
-    let a = point_times-filter (is_shown_point past) (path setup past key) op in
-    let b = point_times-filter (is_on_path setup key) (points past) op in
+    let e = times-told None (filter (is_shown_point past) (begun_path setup past key)) op in
+    let a = point_times-filter (is_shown_point past) (begun_path setup past key) op in
+    let b = point_times-filter (is_on_begun setup key) (points past) op in
     omega (arith, e, a, b, h.once op)
 
-once_in : (setup : SetupState) (past : List Entry) → History setup past → (key : List ℕ) (t : Told) → IsIn (story setup past key) t → StandsOnce (story setup past key) t.op
-once_in setup past h key t i = omega (arith, story_times setup past h key t.op, IsIn_times (story setup past key) t i)
+once_in : (setup : SetupState) (past : List Entry) → History setup past → (key : List ℕ) (t : Told) → IsIn (begun_story setup past key) t → StandsOnce (begun_story setup past key) t.op
+once_in setup past h key t i = omega (arith, story_times setup past h key t.op, IsIn_times (begun_story setup past key) t i)
 
 -- ---- the clauses
 
 story_done : (setup : SetupState) (past : List Entry) → AddsAlong setup past → (key : List ℕ) (op : OpId) (what : Op) (reply : Reply) (branch : Id) (timestamp : ℕ) → IsRequested past key op what → answer past op ≡ Some (Done reply branch timestamp)
-    → StandsOnce (story setup past key) op × IsIn (story setup past key) (record { op = op; what = what; reply = reply })
+    → StandsOnce (begun_story setup past key) op × IsIn (begun_story setup past key) (record { op = op; what = what; reply = reply })
 story_done setup past h key op what reply branch timestamp r a =
     let known = History-along setup past h in
     let w = known.done op reply branch timestamp a in
     let same = one_request setup past h op w.0 key w.1 what w.2 r in
-    let took : TookEffect (path setup past key) op what reply =
-    subst (λ (k : List ℕ). TookEffect (path setup past k) op what reply) same.0 (subst (λ (v : Op). TookEffect (path setup past w.0) op v reply) same.1 w.3) in
+    let took : TookEffect (begun_path setup past key) op what reply =
+    subst (λ (k : List ℕ). TookEffect (begun_path setup past k) op what reply) same.0 (subst (λ (v : Op). TookEffect (begun_path setup past w.0) op v reply) same.1 w.3) in
     let shown : is_shown past op what ≡ true = or_right (not (is_read what)) (is_done past op) (ap is_done_outcome a) in
-    let here : IsIn (story setup past key) (record { op = op; what = what; reply = reply }) = TookEffect-told (is_shown past) (shown_LeavesReads past) (path setup past key) op what reply took shown in
+    let here : IsIn (begun_story setup past key) (record { op = op; what = what; reply = reply }) = TookEffect-told (is_shown past) (shown_LeavesReads past) (begun_path setup past key) op what reply took shown in
     (once_in setup past known key (record { op = op; what = what; reply = reply }) here, here)
 
 IsIn_has_point : (ps : List Point) (p : Point) → IsIn ps p → has_point ps p.op ≡ true
@@ -124,25 +130,25 @@ IsIn_has_point (q ∷ qs) p h =
       | inr i ↦ or_right (same_op q.op p.op) (has_point qs p.op) (IsIn_has_point qs p i)
     ]
 
-story_members : (setup : SetupState) (past : List Entry) → AddsAlong setup past → (key : List ℕ) (t : Told) → IsIn (story setup past key) t → IsRequested past key t.op t.what × StandsOnce (story setup past key) t.op × (answer past t.op ≢ Some NotServing)
+story_members : (setup : SetupState) (past : List Entry) → AddsAlong setup past → (key : List ℕ) (t : Told) → IsIn (begun_story setup past key) t → IsRequested past key t.op t.what × StandsOnce (begun_story setup past key) t.op × (answer past t.op ≢ Some NotServing)
 story_members setup past h key t i =
     let known = History-along setup past h in
-    let p = IsIn-told None (filter (is_shown_point past) (path setup past key)) t i in
-    let shown = IsIn-filter (is_shown_point past) (path setup past key) p.0 p.1 in
-    let on = IsIn-filter (is_on_path setup key) (points past) p.0 shown.0 in
-    let k : p.0.key ≡ key = same_key-true p.0.key key (and_parts (same_key p.0.key key) (is_branch (branch_of setup key) p.0.branch) on.1).0 in
+    let p = IsIn-told None (filter (is_shown_point past) (begun_path setup past key)) t i in
+    let shown = IsIn-filter (is_shown_point past) (begun_path setup past key) p.0 p.1 in
+    let on = IsIn-filter (is_on_begun setup key) (points past) p.0 shown.0 in
+    let k : p.0.key ≡ key = same_key-true p.0.key key (and_parts (same_key p.0.key key) (is_branch (begun_branch setup key) p.0.branch) on.1).0 in
     let r : IsRequested past key p.0.op p.0.what = subst (λ (v : List ℕ). IsRequested past v p.0.op p.0.what) k (known.requested p.0 on.0) in
     let r' : IsRequested past key t.op p.0.what = subst (λ (v : OpId). IsRequested past key v p.0.what) p.2 r in
     let r'' : IsRequested past key t.op t.what = subst (λ (v : Op). IsRequested past key t.op v) p.3 r' in
     let has : has_point (points past) t.op ≡ true = ap (has_point (points past)) (sym p.2) ∙ IsIn_has_point (points past) p.0 on.0 in
     (r'', once_in setup past known key t i, known.served t.op has)
 
-story_order : (setup : SetupState) (past : List Entry) → AddsAlong setup past → (key : List ℕ) (a b : OpId) → goes_before past a b ≡ true → has_told (story setup past key) a ≡ true → has_told (story setup past key) b ≡ true → stands_before (story setup past key) a b ≡ true
+story_order : (setup : SetupState) (past : List Entry) → AddsAlong setup past → (key : List ℕ) (a b : OpId) → goes_before past a b ≡ true → has_told (begun_story setup past key) a ≡ true → has_told (begun_story setup past key) b ≡ true → stands_before (begun_story setup past key) a b ≡ true
 story_order setup past h key a b g i j =
-    let shown : List Point = filter (is_shown_point past) (path setup past key) in
-    let q = λ (p : Point). is_on_path setup key p && is_shown_point past p in
-    let one : shown ≡ filter q (points past) = filter-filter (is_shown_point past) (is_on_path setup key) (points past) in
-    let here = λ (op : OpId) (has : has_told (story setup past key) op ≡ true). ap (λ (l : List Point). has_point l op) (sym one) ∙ sym (has_told-told None shown op) ∙ has in
+    let shown : List Point = filter (is_shown_point past) (begun_path setup past key) in
+    let q = λ (p : Point). is_on_begun setup key p && is_shown_point past p in
+    let one : shown ≡ filter q (points past) = filter-filter (is_shown_point past) (is_on_begun setup key) (points past) in
+    let here = λ (op : OpId) (has : has_told (begun_story setup past key) op ≡ true). ap (λ (l : List Point). has_point l op) (sym one) ∙ sym (has_told-told None shown op) ∙ has in
     stands_before-told None shown a b ∙ ap (λ (l : List Point). point_before l a b) one ∙ in_order setup q past h a b g (here a i) (here b j)
 
 keep : (d : Bool) (t : Told) (u ys : List Told) → (zs : List Told) × (t ∷ (u ++ ys) ≡ keep_done d t u ++ zs)
@@ -157,35 +163,41 @@ up_to_done_prefix past (t ∷ ts) =
     let k = keep (is_done past t.op) t (up_to_done past ts) r.0 in
     (k.0, ap (λ (l : List Told). t ∷ l) r.1 ∙ k.1)
 
-story_prefix_at : (setup : SetupState) (later earlier : List Entry) (key : List ℕ) → KeepsDone setup earlier key (story setup (later ++ earlier) key)
+story_prefix_at : (setup : SetupState) (later earlier : List Entry) (key : List ℕ) → KeepsBegun setup earlier key (begun_story setup (later ++ earlier) key)
 story_prefix_at setup later earlier key =
     let past : List Entry = later ++ earlier in
     let q = is_shown earlier in
-    let one : filter (at_told q) (story setup past key) ≡ told None (filter (at_point q) (filter (at_point (is_shown past)) (path setup past key))) =
-    told-filter q (shown_LeavesReads earlier) None (filter (at_point (is_shown past)) (path setup past key)) in
-    let two : filter (at_point q) (filter (at_point (is_shown past)) (path setup past key)) ≡ filter (at_point q) (path setup past key) =
-    filter_stricter (at_point q) (at_point (is_shown past)) (λ p e. shown_later later earlier p e) (path setup past key) in
+    let one : filter (at_told q) (begun_story setup past key) ≡ told None (filter (at_point q) (filter (at_point (is_shown past)) (begun_path setup past key))) =
+    told-filter q (shown_LeavesReads earlier) None (filter (at_point (is_shown past)) (begun_path setup past key)) in
+    let two : filter (at_point q) (filter (at_point (is_shown past)) (begun_path setup past key)) ≡ filter (at_point q) (begun_path setup past key) =
+    filter_stricter (at_point q) (at_point (is_shown past)) (λ p e. shown_later later earlier p e) (begun_path setup past key) in
     let more = points_later later earlier in
-    let three : path setup past key ≡ path setup earlier key ++ filter (is_on_path setup key) more.0 =
-    ap (filter (is_on_path setup key)) more.1 ∙ filter-append (is_on_path setup key) (points earlier) more.0 in
-    let rest : List Point = filter (at_point q) (filter (is_on_path setup key) more.0) in
-    let four : filter (at_point q) (path setup past key) ≡ filter (at_point q) (path setup earlier key) ++ rest =
-    ap (filter (at_point q)) three ∙ filter-append (at_point q) (path setup earlier key) (filter (is_on_path setup key) more.0) in
-    let tail : List Told = told (after None (filter (at_point q) (path setup earlier key))) rest in
-    let five : filter (at_told q) (story setup past key) ≡ story setup earlier key ++ tail =
-    one ∙ ap (told None) (two ∙ four) ∙ told-append None (filter (at_point q) (path setup earlier key)) rest in
-    let cut = up_to_done_prefix earlier (story setup earlier key) in
-    (cut.0 ++ tail, five ∙ ap (λ (l : List Told). l ++ tail) cut.1 ∙ append_assoc (up_to_done earlier (story setup earlier key)) cut.0 tail)
+    let three : begun_path setup past key ≡ begun_path setup earlier key ++ filter (is_on_begun setup key) more.0 =
+    ap (filter (is_on_begun setup key)) more.1 ∙ filter-append (is_on_begun setup key) (points earlier) more.0 in
+    let rest : List Point = filter (at_point q) (filter (is_on_begun setup key) more.0) in
+    let four : filter (at_point q) (begun_path setup past key) ≡ filter (at_point q) (begun_path setup earlier key) ++ rest =
+    ap (filter (at_point q)) three ∙ filter-append (at_point q) (begun_path setup earlier key) (filter (is_on_begun setup key) more.0) in
+    let tail : List Told = told (after None (filter (at_point q) (begun_path setup earlier key))) rest in
+    let five : filter (at_told q) (begun_story setup past key) ≡ begun_story setup earlier key ++ tail =
+    one ∙ ap (told None) (two ∙ four) ∙ told-append None (filter (at_point q) (begun_path setup earlier key)) rest in
+    let cut = up_to_done_prefix earlier (begun_story setup earlier key) in
+    (cut.0 ++ tail, five ∙ ap (λ (l : List Told). l ++ tail) cut.1 ∙ append_assoc (up_to_done earlier (begun_story setup earlier key)) cut.0 tail)
 
-story_prefix : (setup : SetupState) (past : List Entry) (key : List ℕ) (later earlier : List Entry) → past ≡ later ++ earlier → KeepsDone setup earlier key (story setup past key)
-story_prefix setup past key later earlier e = subst (λ (p : List Entry). KeepsDone setup earlier key (story setup p key)) (sym e) (story_prefix_at setup later earlier key)
+story_prefix : (setup : SetupState) (past : List Entry) (key : List ℕ) (later earlier : List Entry) → past ≡ later ++ earlier → KeepsBegun setup earlier key (begun_story setup past key)
+story_prefix setup past key later earlier e = subst (λ (p : List Entry). KeepsBegun setup earlier key (begun_story setup p key)) (sym e) (story_prefix_at setup later earlier key)
 
-pub register_story : (setup : SetupState) (past : List Entry) → AddsAlong setup past → (key : List ℕ) → IsRegisterStory setup past key (story setup past key)
-register_story setup past h key =
-    record {
-      legal = legal_told None (filter (is_shown_point past) (path setup past key));
+-- where the stories up to each moment are those of the branches that a table begins with
+pub register_story : (setup : SetupState) (past : List Entry) → AddsAlong setup past → (key : List ℕ)
+    → ((later earlier : List Entry) → past ≡ later ++ earlier → story setup earlier key ≡ begun_story setup earlier key) → IsRegisterStory setup past key (story setup past key)
+register_story setup past h key same =
+    let mine : List Told = begun_story setup past key in
+    subst (IsRegisterStory setup past key) (sym (same [] past refl))
+    (record {
+      legal = legal_told None (filter (is_shown_point past) (begun_path setup past key));
       done = story_done setup past h key;
       members = story_members setup past h key;
       order = story_order setup past h key;
-      prefix = story_prefix setup past key;
-    }
+      prefix = λ later earlier e.
+          subst (λ (s : List Told). (rest : List Told) × (filter (is_shown_told earlier) mine ≡ up_to_done earlier s ++ rest)) (sym (same later earlier e))
+          (story_prefix setup past key later earlier e);
+    })

@@ -37,7 +37,9 @@ use Rattle.primary_exec.specs.declared.session.Session.{Session}
 use Rattle.primary_exec.specs.Execution.{Execution, PrimaryStep, has_room, sends, part_of, dispatch_row}
 use Rattle.node_core.specs.declared.journal.Entry.{Entry}
 use Rattle.node_core.specs.Parts.{Requested, is_for, dispatched, passed_on, request_all}
-use Rattle.world_core.specs.Story.{Point, answer_in, or_else, points_in, same_key, branch_of, is_branch, is_on_path, path}
+use Rattle.world_core.specs.Story.{Point, answer_in, or_else, points_in, same_key}
+use Rattle.world_core.specs.Stored.{is_branch}
+use Rattle.world_core.proofs.Begun.{begun_branch, is_on_begun, begun_path}
 use Rattle.world_core.proofs.Told.{after, after-append, TookEffect, TookEffect-last}
 use Rattle.world_core.proofs.Facts.{WaitsWell, WaitsWell-more, path-cons}
 use Rattle.world_core.proofs.Outs.{points_in-append, points_in-sends, answer_in-append, answer_in-sends, Answered, all_push}
@@ -185,7 +187,7 @@ abbrev pub RequestPoints : ℕ → List Execution → OpId → List ℕ → Op �
 RequestPoints hashes xs op key what ps =
     ((list_any (is_for hashes key) xs ≡ false) × (ps ≡ [])) ⊎ ((list_any (is_for hashes key) xs ≡ true) × ((branch : Id) × (at : ℕ) × (ps ≡ point_at op key what branch at ∷ [])))
 
-dispatch_points : (x : Execution) (rows : Rows) (versions : Pieced Version) (op : OpId) (key : List ℕ) (what : Op)
+pub dispatch_points : (x : Execution) (rows : Rows) (versions : Pieced Version) (op : OpId) (key : List ℕ) (what : Op)
     → points_in what (dispatch_row x rows versions op key what).outs ≡ point_at op key what x.branch (x.last + 1) ∷ []
 dispatch_points x rows versions op key what =
     let part : Part = part_of (value_of rows key) (x.last + 1) key what in
@@ -243,14 +245,14 @@ module _ (setup : SetupState) (past : List Entry) (node : NodeId) (op : OpId) (k
                   apart_by (λ k. nat_lt 0 (holders exec_region xs (hash_of k setup.hashes) k)) key other
                   (lt-ltb 0 (holders exec_region xs (hash_of key setup.hashes) key) (some_holds setup.hashes key xs p.0))
                   (ap (nat_lt 0) none) in
-                  same_path other (point_at op key what p.1.0 p.1.1 ∷ []) p.1.2 (ap (λ c. cond (c && is_branch (branch_of setup other) p.1.0) (point_at op key what p.1.0 p.1.1 ∷ []) []) ne)
+                  same_path other (point_at op key what p.1.0 p.1.1 ∷ []) p.1.2 (ap (λ c. cond (c && is_branch (begun_branch setup other) p.1.0) (point_at op key what p.1.0 p.1.1 ∷ []) []) ne)
             ];
       }
     where
-      same_path : (other : List ℕ) (ps : List Point) → points_in what outs ≡ ps → filter (is_on_path setup other) ps ≡ [] → path setup (request_entry ∷ past) other ≡ path setup past other
+      same_path : (other : List ℕ) (ps : List Point) → points_in what outs ≡ ps → filter (is_on_begun setup other) ps ≡ [] → begun_path setup (request_entry ∷ past) other ≡ begun_path setup past other
       same_path other ps are none =
-          path-cons setup past request_entry other ∙ ap (λ (l : List Point). path setup past other ++ filter (is_on_path setup other) l) are
-          ∙ ap (λ (l : List Point). path setup past other ++ l) none ∙ append-nil (path setup past other)
+          path-cons setup past request_entry other ∙ ap (λ (l : List Point). begun_path setup past other ++ filter (is_on_begun setup other) l) are
+          ∙ ap (λ (l : List Point). begun_path setup past other ++ l) none ∙ append-nil (begun_path setup past other)
 
   -- the execution of the key, after the operation took its timestamp
   own_facts : (rows : Rows) (versions : Pieced Version) (x : Execution) → 0 < setup.hashes → versions.hashes ≡ setup.hashes → is_for setup.hashes key x ≡ true
@@ -269,24 +271,24 @@ module _ (setup : SetupState) (past : List Entry) (node : NodeId) (op : OpId) (k
       ∙ and_from (in_region region (hash_of key setup.hashes) key) (is_behind x.branch at (value_at versions.pieces (hash_of key setup.hashes) key)) has
       (ap (is_behind x.branch at) (f.stands (hash_of key setup.hashes) key (mod-lt (sum key) some) has) ∙ behind_own x.branch x.last at later) in
       let on = λ (k : List ℕ) (i : is_for setup.hashes k x ≡ true). ap (λ o. is_branch o x.branch) (f.branch k i) ∙ same_id-refl x.branch in
-      let way = λ (k : List ℕ). path-cons setup past request_entry k ∙ ap (λ (l : List Point). path setup past k ++ filter (is_on_path setup k) l) pts in
+      let way = λ (k : List ℕ). path-cons setup past request_entry k ∙ ap (λ (l : List Point). begun_path setup past k ++ filter (is_on_begun setup k) l) pts in
       let store = λ (k : List ℕ) (i : is_for setup.hashes k x ≡ true).
-      let value : after None (path setup (request_entry ∷ past) k) ≡ after (value_of rows k) (filter (is_on_path setup k) (new ∷ [])) =
-      ap (after None) (way k) ∙ after-append None (path setup past k) (filter (is_on_path setup k) (new ∷ [])) ∙ ap (λ (s : State). after s (filter (is_on_path setup k) (new ∷ []))) (sym (f.store k i)) in
-      let here : value_of row.rows k ≡ after (value_of rows k) (filter (is_on_path setup k) (new ∷ [])) =
-      elim (same_key key k) as (λ c. same_key key k ≡ c → value_of row.rows k ≡ after (value_of rows k) (cond (c && is_branch (branch_of setup k) x.branch) (new ∷ []) [])) [
+      let value : after None (begun_path setup (request_entry ∷ past) k) ≡ after (value_of rows k) (filter (is_on_begun setup k) (new ∷ [])) =
+      ap (after None) (way k) ∙ after-append None (begun_path setup past k) (filter (is_on_begun setup k) (new ∷ [])) ∙ ap (λ (s : State). after s (filter (is_on_begun setup k) (new ∷ []))) (sym (f.store k i)) in
+      let here : value_of row.rows k ≡ after (value_of rows k) (filter (is_on_begun setup k) (new ∷ [])) =
+      elim (same_key key k) as (λ c. same_key key k ≡ c → value_of row.rows k ≡ after (value_of rows k) (cond (c && is_branch (begun_branch setup k) x.branch) (new ∷ []) [])) [
         | true ↦ λ is.
-            subst (λ (v : List ℕ). value_of row.rows v ≡ after (value_of rows v) (cond (is_branch (branch_of setup v) x.branch) (new ∷ []) [])) (same_key-true key k is)
+            subst (λ (v : List ℕ). value_of row.rows v ≡ after (value_of rows v) (cond (is_branch (begun_branch setup v) x.branch) (new ∷ []) [])) (same_key-true key k is)
             (value_of-own rows region x.branch at versions key what comes ∙ sym (ap (λ c. after before (cond c (new ∷ []) [])) (on key has)))
         | false ↦ λ ne. value_of-other rows region x.branch at versions key k what (same_key_sym key k ne)
       ] refl in
       here ∙ sym value in
       let d : Decided = record { op = Some op; at = at; reply = reply_of before what } in
-      let way_here : path setup (request_entry ∷ past) key ≡ path setup past key ++ new ∷ [] =
-      way key ∙ ap₂ (λ (a c : Bool). path setup past key ++ cond (a && c) (new ∷ []) []) (same_key-self key) (on key has) in
-      let took_here : TookEffect (path setup past key ++ new ∷ []) op what (reply_of before what) =
-      subst (λ (s : State). TookEffect (path setup past key ++ new ∷ []) op what (reply_of s what)) (sym (f.store key has)) (TookEffect-last (path setup past key) new) in
-      let took : TookEffect (path setup (request_entry ∷ past) key) op what (reply_of before what) =
+      let way_here : begun_path setup (request_entry ∷ past) key ≡ begun_path setup past key ++ new ∷ [] =
+      way key ∙ ap₂ (λ (a c : Bool). begun_path setup past key ++ cond (a && c) (new ∷ []) []) (same_key-self key) (on key has) in
+      let took_here : TookEffect (begun_path setup past key ++ new ∷ []) op what (reply_of before what) =
+      subst (λ (s : State). TookEffect (begun_path setup past key ++ new ∷ []) op what (reply_of s what)) (sym (f.store key has)) (TookEffect-last (begun_path setup past key) new) in
+      let took : TookEffect (begun_path setup (request_entry ∷ past) key) op what (reply_of before what) =
       subst (λ (l : List Point). TookEffect l op what (reply_of before what)) (sym way_here) took_here in
       let own : WaitsWell setup (request_entry ∷ past) d = record { waits = (key, what, inl (refl, refl, refl), took) } in
       record {

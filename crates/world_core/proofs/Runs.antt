@@ -1,5 +1,5 @@
--- The invariants of every run.
-use Rattle.std.proofs.Common.{◌≡◌, ℕ, zero, suc, ◌+◌, ◌≤◌, ◌<◌, ◌==◌, true, false, not, ◌&&◌, nat_lt, nat_le, List, [], ◌∷◌, Option, Some, refl, sym, ap, ◌∙◌, subst, arith}
+-- The invariants of every quiet run.
+use Rattle.std.proofs.Common.{◌≡◌, ℕ, zero, suc, ◌+◌, ◌≤◌, ◌<◌, ◌==◌, Bool, true, false, not, ◌&&◌, nat_lt, nat_le, List, [], ◌∷◌, Option, Some, refl, sym, ap, ◌∙◌, subst, arith}
 use Rattle.std.proofs.lemmas.Bool.{false≢true, cond_both, and_parts, eqb-true}
 use Rattle.std.specs.List.{AllByRecursion}
 use Rattle.region_map.specs.Regions.{in_region}
@@ -12,11 +12,15 @@ use Rattle.primary_exec.specs.Execution.{Execution}
 use Rattle.node_core.specs.declared.node.Brought.{Brought}
 use Rattle.node_core.specs.declared.journal.Entry.{Entry}
 use Rattle.node_core.specs.Parts.{is_for}
-use Rattle.node_core.specs.Step.{NodeState, executions_from, followings_from, begin_node, node_step, ends_numbers}
-use Rattle.world_core.specs.Run.{arrives, is_fresh, brought, state, IsStep, IsRun}
-use Rattle.world_core.specs.Story.{branch_of, IsRegisterStory, story}
+use Rattle.node_core.specs.Step.{NodeState, executions_from, followings_from, begin_node, ends_numbers}
+use Rattle.world_core.specs.Quiet.{are_quiet}
+use Rattle.world_core.specs.Run.{names_node, arrives, suits, is_fresh, brought, state, IsStep, IsRun}
+use Rattle.world_core.specs.Story.{IsRegisterStory, story}
+use Rattle.world_core.proofs.Begun.{begun_branch}
+use Rattle.world_core.proofs.BegunPaths.{quiet_story_at}
 use Rattle.world_core.proofs.Facts.{WaitsWell}
 use Rattle.world_core.proofs.Orders.{AddsAlong}
+use Rattle.world_core.proofs.Plain.{plain_step, quiet_past, quiet_outs, quiet_state}
 use Rattle.world_core.proofs.RegisterStory.{register_story}
 use Rattle.world_core.proofs.Setups.{exec_region, following_region, at_one_node, at_two_nodes, one_shard, branches_begin, nothing_begun, begin_hashes, versions_begin}
 use Rattle.world_core.proofs.Nodes.{AllRun, PathsStay, holders-same, all_kept}
@@ -33,7 +37,7 @@ pub some_hash : (setup : SetupState) → IsSetup setup → 0 < setup.hashes
 some_hash setup ok = hashes_some setup.hashes (and_parts (nat_lt 0 setup.nodes && nat_le setup.nodes 7) (is_hashes setup.hashes) ok.fits).1
 
 begin_runs : (setup : SetupState) (versions : Pieced Version) (xs : List Execution)
-    → ((key : List ℕ) → AllByRecursion (λ x. is_for setup.hashes key x ≡ true → branch_of setup key ≡ Some x.branch) xs)
+    → ((key : List ℕ) → AllByRecursion (λ x. is_for setup.hashes key x ≡ true → begun_branch setup key ≡ Some x.branch) xs)
     → AllByRecursion (λ x. (x.last ≡ 0) × (x.dispatch.waiting ≡ [])) xs
     → AllByRecursion (λ x. (h : ℕ) (k : List ℕ) → h < setup.hashes → in_region x.contract.region h k ≡ true → value_at versions.pieces h k ≡ Some (point x.branch 0)) xs
     → AllRun setup [] [] versions xs
@@ -83,20 +87,21 @@ hold_apart setup ok past n m s t ne f g h k =
 
 pub step_fresh : (setup : SetupState) (past : List Entry) (e : Entry) → IsStep setup past e → is_fresh past e.input ≡ true
 step_fresh setup past e h =
-    (and_parts (nat_lt e.node.0 setup.nodes && arrives past e.node e.input) (is_fresh past e.input)
-    (and_parts (nat_lt e.node.0 setup.nodes && arrives past e.node e.input && is_fresh past e.input) (not (ends_numbers (state setup e.node.0 past) e.input (brought past e.input))) h.allowed).0).1
+    let s : NodeState = state setup e.node.0 past in
+    let fits : Bool = nat_lt e.node.0 setup.nodes && names_node setup e.input && arrives past e.node e.input && suits s.up e.input in
+    (and_parts fits (is_fresh past e.input) (and_parts (fits && is_fresh past e.input) (not (ends_numbers s e.input (brought past e.input))) h.allowed).0).1
 
--- an entry of a run is the one that its node's step gives
-entry_is : (setup : SetupState) (past : List Entry) (e : Entry) → IsStep setup past e → e ≡ step_entry e.node (state setup e.node.0 past) e.input (brought past e.input)
-entry_is setup past e h = λ i. record { node = e.node; input = e.input; outputs = h.outputs i }
+-- an entry of a quiet run is the one that a plain step of its node gives
+entry_is : (setup : SetupState) (past : List Entry) (e : Entry) → IsRun setup (e ∷ past) → are_quiet (e ∷ past) ≡ true → e ≡ step_entry e.node (state setup e.node.0 past) e.input (brought past e.input)
+entry_is setup past e h quiet = λ i. record { node = e.node; input = e.input; outputs = quiet_outs setup past e h quiet i }
 
-entry_facts : (setup : SetupState) → IsSetup setup → (past : List Entry) (e : Entry) → IsStep setup past e → StateFacts setup past e.node.0 (state setup e.node.0 past)
-    → StepFacts setup past e.node.0 (state setup e.node.0 past).executions (node_step (state setup e.node.0 past) e.input (brought past e.input)).node e
-entry_facts setup ok past e h f =
+entry_facts : (setup : SetupState) → IsSetup setup → (past : List Entry) (e : Entry) → IsRun setup (e ∷ past) → are_quiet (e ∷ past) ≡ true → StateFacts setup past e.node.0 (state setup e.node.0 past)
+    → StepFacts setup past e.node.0 (state setup e.node.0 past).executions (plain_step (state setup e.node.0 past) e.input (brought past e.input)).node e
+entry_facts setup ok past e h quiet f =
     let s : NodeState = state setup e.node.0 past in
     let b : Option Brought = brought past e.input in
-    subst (λ (v : Entry). StepFacts setup past e.node.0 s.executions (node_step s e.input b).node v) (sym (entry_is setup past e h))
-    (node_facts setup past e.node e.node.0 s e.input b (some_hash setup ok) (step_fresh setup past e h) (hold_one setup ok past e.node.0 s f) f)
+    subst (λ (v : Entry). StepFacts setup past e.node.0 s.executions (plain_step s e.input b).node v) (sym (entry_is setup past e h quiet))
+    (node_facts setup past e.node e.node.0 s e.input b (some_hash setup ok) (step_fresh setup past e h.0) (hold_one setup ok past e.node.0 s f) f)
 
 -- the entry of another node leaves the facts of a node
 other_facts : (setup : SetupState) → IsSetup setup → (past : List Entry) (e : Entry) (n m : ℕ) (s t : NodeState) → (n == m) ≡ false → StateFacts setup past n s → PathsStay setup (holders exec_region s.executions) past e
@@ -114,18 +119,21 @@ other_facts setup ok past e n m s t ne f p g =
           };
     }
 
-pub run_facts : (setup : SetupState) → IsSetup setup → (past : List Entry) → IsRun setup past → AddsAlong setup past × ((n : ℕ) → StateFacts setup past n (state setup n past))
-run_facts setup ok [] h = (tt, begin_facts setup ok)
-run_facts setup ok (e ∷ past) h =
-    let r = run_facts setup ok past h.1 in
-    let s = entry_facts setup ok past e h.0 (r.1 e.node.0) in (
+pub run_facts : (setup : SetupState) → IsSetup setup → (past : List Entry) → IsRun setup past → are_quiet past ≡ true → AddsAlong setup past × ((n : ℕ) → StateFacts setup past n (state setup n past))
+run_facts setup ok [] h quiet = (tt, begin_facts setup ok)
+run_facts setup ok (e ∷ past) h quiet =
+    let r = run_facts setup ok past h.1 (quiet_past e past quiet) in
+    let s = entry_facts setup ok past e h quiet (r.1 e.node.0) in (
       (s.adds, r.0),
       λ n.
-          cond_both (e.node.0 == n) (node_step (state setup n past) e.input (brought past e.input)).node (state setup n past) (StateFacts setup (e ∷ past) n)
-          (λ same. subst (λ (k : ℕ). StateFacts setup (e ∷ past) k (node_step (state setup k past) e.input (brought past e.input)).node) (eqb-true e.node.0 n same) s.own)
-          (λ ne. other_facts setup ok past e e.node.0 n (state setup e.node.0 past) (state setup n past) ne (r.1 e.node.0) s.others (r.1 n)),
+          subst (StateFacts setup (e ∷ past) n) (sym (quiet_state setup past e h.1 quiet n))
+          (cond_both (e.node.0 == n) (plain_step (state setup n past) e.input (brought past e.input)).node (state setup n past) (StateFacts setup (e ∷ past) n)
+          (λ same. subst (λ (k : ℕ). StateFacts setup (e ∷ past) k (plain_step (state setup k past) e.input (brought past e.input)).node) (eqb-true e.node.0 n same) s.own)
+          (λ ne. other_facts setup ok past e e.node.0 n (state setup e.node.0 past) (state setup n past) ne (r.1 e.node.0) s.others (r.1 n))),
     )
 
--- in every run each key's story is a register story
-pub run_story : (setup : SetupState) → IsSetup setup → (past : List Entry) → IsRun setup past → (key : List ℕ) → IsRegisterStory setup past key (story setup past key)
-run_story setup ok past h key = register_story setup past (run_facts setup ok past h).0 key
+-- in every quiet run each key's story is a register story
+pub run_story : (setup : SetupState) → IsSetup setup → (past : List Entry) → IsRun setup past → are_quiet past ≡ true → (key : List ℕ) → IsRegisterStory setup past key (story setup past key)
+run_story setup ok past h quiet key =
+    register_story setup past (run_facts setup ok past h quiet).0 key
+    (λ later earlier e. quiet_story_at setup later earlier key (subst (IsRun setup) e h) (subst (λ (p : List Entry). are_quiet p ≡ true) e quiet))

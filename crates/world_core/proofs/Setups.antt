@@ -29,7 +29,7 @@ use Rattle.primary_exec.specs.declared.session.Session.{Session}
 use Rattle.primary_exec.specs.Execution.{Execution, joined, begun, join_all, setup_execution}
 use Rattle.node_core.specs.Parts.{is_for}
 use Rattle.node_core.specs.Step.{is_led, is_followed, executions_from, followings_from, versions_from, begin_node}
-use Rattle.world_core.specs.Story.{branch_of}
+use Rattle.world_core.proofs.Begun.{begun_branch}
 use Rattle.world_core.proofs.ShardRoles.{HasRoles, setup_roles, member_below}
 
 abbrev pub exec_region : Execution → Region
@@ -217,7 +217,7 @@ branches_at n hashes place (s ∷ ss) older h k few =
     cond_both (is_led n s) (x ∷ rest) rest (λ (l : List Execution). AllByRecursion P l) (λ _. (here, all)) (λ _. all)
 
 pub branches_begin : (setup : SetupState) → IsSetup setup → (n : ℕ) (key : List ℕ)
-    → AllByRecursion (λ x. is_for setup.hashes key x ≡ true → branch_of setup key ≡ Some x.branch) (executions_from n 0 setup.shards)
+    → AllByRecursion (λ x. is_for setup.hashes key x ≡ true → begun_branch setup key ≡ Some x.branch) (executions_from n 0 setup.shards)
 branches_begin setup ok n key =
     branches_at n setup.hashes 0 setup.shards [] (hash_of key setup.hashes) key (one_shard setup ok (hash_of key setup.hashes) key)
 

@@ -1,5 +1,5 @@
--- An operation is answered at most once: it waits at one execution of one node, once, and is answered as it leaves.
-use Rattle.std.proofs.Common.{◌≡◌, ℕ, zero, suc, ◌+◌, ◌<◌, ◌≤◌, ◌==◌, Bool, true, false, cond, ◌||◌, nat_le, List, [], ◌∷◌, ◌++◌, map, filter, Option, Some, None, refl, sym, ap, subst, inl, inr, arith}
+-- In a quiet run an operation is answered at most once: it waits at one execution of one node, once, and is answered as it leaves.
+use Rattle.std.proofs.Common.{◌≡◌, ℕ, zero, suc, ◌+◌, ◌<◌, ◌≤◌, ◌==◌, Bool, true, false, cond, ◌||◌, nat_le, List, [], ◌∷◌, ◌++◌, map, filter, Option, Some, None, refl, sym, ap, ◌∙◌, subst, inl, inr, arith}
 use Rattle.std.proofs.lemmas.Bool.{cond_both, false≢true, eqb-true, eq-eqb, ltb-true, cases_eq, ne_eqb}
 use Rattle.std.specs.List.{AllByRecursion}
 use Rattle.region_map.specs.declared.id.Id.{Id}
@@ -12,7 +12,7 @@ use Rattle.register_laws.specs.Register.{reply_of}
 use Rattle.register_laws.specs.Lists.{same_op}
 use Rattle.contract_types.specs.Setup.{SetupState}
 use Rattle.exec_types.specs.declared.input.Input.{Input}
-use Rattle.exec_types.specs.declared.input.Input.TheVariants.{Request, GiveUp, Deliver}
+use Rattle.exec_types.specs.declared.input.Input.TheVariants.{Request, GiveUp, See, Tick, Deliver, Crash, Restart}
 use Rattle.exec_types.specs.declared.message.Message.{Message as Sent}
 use Rattle.exec_types.specs.declared.message.Message.TheVariants as message
 use Rattle.exec_types.specs.declared.message.Got.{Got}
@@ -20,7 +20,7 @@ use Rattle.exec_types.specs.declared.message.Part.{Part}
 use Rattle.exec_types.specs.declared.message.Stream.{Stream}
 use Rattle.exec_types.specs.declared.outcome.Outcome.TheVariants.{NoMajority}
 use Rattle.exec_types.specs.declared.output.Output.{Output}
-use Rattle.exec_types.specs.declared.output.Output.TheVariants.{Message, Dispatched, Answer}
+use Rattle.exec_types.specs.declared.output.Output.TheVariants.{Message, Dispatched, Viewed, Answer}
 use Rattle.store_api.specs.Rows.{Rows, value_of}
 use Rattle.write_dispatch.specs.declared.decided.Decided.{Decided}
 use Rattle.write_dispatch.specs.Dispatch.{DispatchState, counts_of, is_decided, pending_of, without_op, is_of}
@@ -32,10 +32,12 @@ use Rattle.secondary_exec.specs.Stream.{FollowingStep, stream_row, is_ours, take
 use Rattle.node_core.specs.declared.node.Brought.{Brought}
 use Rattle.node_core.specs.declared.journal.Entry.{Entry}
 use Rattle.node_core.specs.Parts.{Requested, Streamed, is_for, dispatched, passed_on, request_all, taken, left_alone, stream_all, got_all, give_up_all, give_up_all_outs, decide_all, decide_all_outs}
-use Rattle.node_core.specs.Step.{NodeState, Stepped, executions_from, silent, message_row, is_well_formed, brought_row, input_row, end_step, node_step}
+use Rattle.node_core.specs.Step.{NodeState, Stepped, executions_from, silent, decide_step}
+use Rattle.world_core.specs.Quiet.{are_quiet}
 use Rattle.world_core.specs.Run.{requests, is_requested, is_fresh, brought, state, IsRun}
 use Rattle.world_core.specs.Answers.{answers_in, answers_to}
 use Rattle.world_core.proofs.Facts.{fresh_apart}
+use Rattle.world_core.proofs.Plain.{plain_message, is_from_table, plain_brought, plain_row, plain_step, quiet_past, quiet_outs, quiet_state}
 use Rattle.world_core.proofs.Setups.{nothing_begun}
 use Rattle.world_core.proofs.Steps.{got_row-waiting}
 use Rattle.world_core.proofs.Runs.{step_fresh}
@@ -60,6 +62,7 @@ answers_in-append : (a b : List Output) (op : OpId) → answers_in (a ++ b) op �
 answers_in-append [] b op = omega arith
 answers_in-append (Message to message ∷ a) b op = answers_in-append a b op
 answers_in-append (Dispatched q key branch timestamp ∷ a) b op = answers_in-append a b op
+answers_in-append (Viewed first results ∷ a) b op = answers_in-append a b op
 answers_in-append (Answer q outcome ∷ a) b op =
     let rest = answers_in-append a b op in
     omega arith
@@ -101,7 +104,7 @@ all_decided (x ∷ xs) op =
 abbrev pub Balanced : Stepped → OpId → ℕ → Type 0
 Balanced step op most = answers_in step.outs op + waits_over step.node.executions op ≤ most
 
-Balanced-end : (step : Stepped) (op : OpId) (most : ℕ) → Balanced step op most → Balanced (end_step step) op most
+Balanced-end : (step : Stepped) (op : OpId) (most : ℕ) → Balanced step op most → Balanced (decide_step step) op most
 Balanced-end step op most h =
     let both = answers_in-append step.outs (decide_all_outs step.node.executions) op in
     let left = all_decided step.node.executions op in
@@ -185,7 +188,9 @@ got_waits (x ∷ xs) from got op =
     let rest = got_waits xs from got op in
     omega arith
 
-Balanced-message : (s : NodeState) (from : NodeId) (m : Sent) (op : OpId) → Balanced (message_row s from m) op (waits_over s.executions op + 0)
+Balanced-message : (s : NodeState) (from : NodeId) (m : Sent) (op : OpId) → Balanced (plain_message s from m) op (waits_over s.executions op + 0)
+Balanced-message s from (message.Raft m) op = omega arith
+Balanced-message s from (message.Say contract ack) op = omega arith
 Balanced-message s from (message.Stream stream) op =
     let none = stream_answers s.followings s.rows s.versions from stream 0 op in
     omega arith
@@ -193,23 +198,27 @@ Balanced-message s from (message.Got got) op =
     let same = got_waits s.executions from got op in
     omega arith
 
-Balanced-brought : (s : NodeState) (b : Option Brought) (op : OpId) → Balanced (brought_row s b) op (waits_over s.executions op + 0)
+Balanced-brought : (s : NodeState) (b : Option Brought) (op : OpId) → Balanced (plain_brought s b) op (waits_over s.executions op + 0)
 Balanced-brought s None op = omega arith
 Balanced-brought s (Some b) op =
-    cond_both (is_well_formed s b) (message_row s b.from b.message) (silent s) (λ (step : Stepped). Balanced step op (waits_over s.executions op + 0))
+    cond_both (is_from_table s b) (plain_message s b.from b.message) (silent s) (λ (step : Stepped). Balanced step op (waits_over s.executions op + 0))
     (λ _. Balanced-message s b.from b.message op) (λ _. omega arith)
 
-Balanced-row : (s : NodeState) (input : Input) (b : Option Brought) (op : OpId) → Balanced (input_row s input b) op (waits_over s.executions op + one_if (requests input op))
+Balanced-row : (s : NodeState) (input : Input) (b : Option Brought) (op : OpId) → Balanced (plain_row s input b) op (waits_over s.executions op + one_if (requests input op))
 Balanced-row s (Request q key what) b op =
     let all = request_waits s.setup.hashes s.executions s.rows s.versions q key what op in
     omega arith
 Balanced-row s (GiveUp q) b op =
     let all = give_up_waits s.executions q op in
     omega arith
+Balanced-row s (See other up) b op = omega arith
+Balanced-row s Tick b op = omega arith
 Balanced-row s (Deliver number) b op = Balanced-brought s b op
+Balanced-row s Crash b op = omega arith
+Balanced-row s Restart b op = omega arith
 
-Balanced-step : (s : NodeState) (input : Input) (b : Option Brought) (op : OpId) → Balanced (node_step s input b) op (waits_over s.executions op + one_if (requests input op))
-Balanced-step s input b op = Balanced-end (input_row s input b) op (waits_over s.executions op + one_if (requests input op)) (Balanced-row s input b op)
+Balanced-step : (s : NodeState) (input : Input) (b : Option Brought) (op : OpId) → Balanced (plain_step s input b) op (waits_over s.executions op + one_if (requests input op))
+Balanced-step s input b op = Balanced-end (plain_row s input b) op (waits_over s.executions op + one_if (requests input op)) (Balanced-row s input b op)
 
 -- ---- all nodes
 
@@ -273,32 +282,33 @@ none_waits_below setup op (suc n) =
     omega arith
 
 -- what was answered and what waits was requested, each once
-answered_and_waiting : (setup : SetupState) (past : List Entry) → IsRun setup past → (op : OpId)
+answered_and_waiting : (setup : SetupState) (past : List Entry) → IsRun setup past → are_quiet past ≡ true → (op : OpId)
     → answers_to past op + sum_below (waits_of setup past op) setup.nodes ≤ one_if (is_requested past op)
-answered_and_waiting setup [] h op =
+answered_and_waiting setup [] h all_quiet op =
     let none = none_waits_below setup op setup.nodes in
     omega arith
-answered_and_waiting setup (e ∷ past) h op =
+answered_and_waiting setup (e ∷ past) h all_quiet op =
     let s : NodeState = state setup e.node.0 past in
     let b : Option Brought = brought past e.input in
-    let known = answered_and_waiting setup past h.1 op in
+    let known = answered_and_waiting setup past h.1 (quiet_past e past all_quiet) op in
     let asked = asked_once past e.input op (step_fresh setup past e h.0) in
-    let balance : answers_in (node_step s e.input b).outs op + waits_over (node_step s e.input b).node.executions op ≤ waits_over s.executions op + one_if (requests e.input op) = Balanced-step s e.input b op in
-    let said : answers_in e.outputs op ≡ answers_in (node_step s e.input b).outs op = ap (λ (l : List Output). answers_in l op) h.0.outputs in
-    let chosen : ℕ → Bool → NodeState = λ n c. cond c (node_step (state setup n past) e.input b).node (state setup n past) in
-    let here : waits_of setup (e ∷ past) op e.node.0 ≡ waits_over (node_step s e.input b).node.executions op =
-    ap (λ c. waits_over (chosen e.node.0 c).executions op) (eq-eqb e.node.0 e.node.0 refl) in
+    let balance : answers_in (plain_step s e.input b).outs op + waits_over (plain_step s e.input b).node.executions op ≤ waits_over s.executions op + one_if (requests e.input op) = Balanced-step s e.input b op in
+    let said : answers_in e.outputs op ≡ answers_in (plain_step s e.input b).outs op = ap (λ (l : List Output). answers_in l op) (quiet_outs setup past e h all_quiet) in
+    let chosen : ℕ → Bool → NodeState = λ n c. cond c (plain_step (state setup n past) e.input b).node (state setup n past) in
+    let next : (n : ℕ) → waits_of setup (e ∷ past) op n ≡ waits_over (chosen n (e.node.0 == n)).executions op = λ n. ap (λ (t : NodeState). waits_over t.executions op) (quiet_state setup past e h.1 all_quiet n) in
+    let here : waits_of setup (e ∷ past) op e.node.0 ≡ waits_over (plain_step s e.input b).node.executions op =
+    next e.node.0 ∙ ap (λ c. waits_over (chosen e.node.0 c).executions op) (eq-eqb e.node.0 e.node.0 refl) in
     let all = sum_changed (waits_of setup (e ∷ past) op) (waits_of setup past op) e.node.0 (answers_in e.outputs op) (one_if (requests e.input op))
-    (λ n other. ap (λ c. waits_over (chosen n c).executions op) other) (omega arith) setup.nodes (ltb-true e.node.0 setup.nodes (node_within setup past e h.0)) in
+    (λ n other. next n ∙ ap (λ c. waits_over (chosen n c).executions op) other) (omega arith) setup.nodes (ltb-true e.node.0 setup.nodes (node_within setup past e h.0)) in
     omega arith
 
 at_most_one : (b : Bool) → one_if b ≤ 1
 at_most_one true = omega arith
 at_most_one false = omega arith
 
-pub answered_once : (setup : SetupState) (past : List Entry) → IsRun setup past → (op : OpId) → answers_to past op ≤ 1
-answered_once setup past h op =
-    let known = answered_and_waiting setup past h op in
+pub answered_once : (setup : SetupState) (past : List Entry) → IsRun setup past → are_quiet past ≡ true → (op : OpId) → answers_to past op ≤ 1
+answered_once setup past h all_quiet op =
+    let known = answered_and_waiting setup past h all_quiet op in
     let few = at_most_one (is_requested past op) in
     omega arith
 
@@ -311,9 +321,9 @@ one_below f (suc n) m h =
     ]
 
 -- an operation waits at a node at most once
-pub waits_once : (setup : SetupState) (past : List Entry) → IsRun setup past → (n : ℕ) (op : OpId) → n < setup.nodes → waits_over (state setup n past).executions op ≤ 1
-waits_once setup past h n op below =
-    let known = answered_and_waiting setup past h op in
+pub waits_once : (setup : SetupState) (past : List Entry) → IsRun setup past → are_quiet past ≡ true → (n : ℕ) (op : OpId) → n < setup.nodes → waits_over (state setup n past).executions op ≤ 1
+waits_once setup past h all_quiet n op below =
+    let known = answered_and_waiting setup past h all_quiet op in
     let few = at_most_one (is_requested past op) in
     let here = one_below (waits_of setup past op) setup.nodes n below in
     omega arith

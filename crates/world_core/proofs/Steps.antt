@@ -1,5 +1,5 @@
--- What one step of a node adds to the history, and the facts of the node after it.
-use Rattle.std.proofs.Common.{◌≡◌, ℕ, ◌+◌, ◌≤◌, ◌<◌, Bool, true, false, cond, List, [], ◌∷◌, ◌++◌, map, filter, nat_lt, Option, Some, None, refl, sym, ap, ◌∙◌, subst, inl, inr, arith, append-nil}
+-- What one plain step of a node adds to the history, and the facts of the node after it.
+use Rattle.std.proofs.Common.{◌≡◌, ℕ, ◌+◌, ◌≤◌, ◌<◌, Bool, true, false, cond, List, [], ◌∷◌, ◌++◌, map, filter, Option, Some, None, refl, sym, ap, ◌∙◌, subst, inl, inr, arith, append-nil}
 use Rattle.std.proofs.lemmas.Bool.{cond_both, or_right}
 use Rattle.std.specs.List.{AllByRecursion}
 use Rattle.region_map.specs.declared.id.NodeId.{NodeId}
@@ -18,7 +18,7 @@ use Rattle.exec_types.specs.declared.message.Message.TheVariants as message
 use Rattle.exec_types.specs.declared.message.Got.{Got}
 use Rattle.exec_types.specs.declared.message.Stream.{Stream}
 use Rattle.exec_types.specs.declared.input.Input.{Input}
-use Rattle.exec_types.specs.declared.input.Input.TheVariants.{Request, GiveUp, Deliver}
+use Rattle.exec_types.specs.declared.input.Input.TheVariants.{Request, GiveUp, See, Tick, Deliver, Crash, Restart}
 use Rattle.exec_types.specs.declared.outcome.Outcome.{Outcome}
 use Rattle.exec_types.specs.declared.outcome.Outcome.TheVariants.{NoMajority}
 use Rattle.exec_types.specs.declared.output.Output.{Output}
@@ -34,12 +34,14 @@ use Rattle.secondary_exec.specs.Stream.{FollowingStep, stream_row, is_ours}
 use Rattle.node_core.specs.declared.node.Brought.{Brought}
 use Rattle.node_core.specs.declared.journal.Entry.{Entry}
 use Rattle.node_core.specs.Parts.{Requested, Streamed, request_all, taken, left_alone, stream_all, got_all, give_up_all, give_up_all_outs, decide_all_outs}
-use Rattle.node_core.specs.Step.{NodeState, Stepped, silent, with_requested, request_row, give_up, message_row, brought_row, end_step, node_step}
+use Rattle.node_core.specs.Step.{NodeState, Stepped, silent, with_requested, request_row, give_up, decide_step}
 use Rattle.world_core.specs.Run.{requests, is_requested, is_fresh}
-use Rattle.world_core.specs.Story.{Point, IsIn, answer_in, points_in, points_of, is_on_path, path}
+use Rattle.world_core.specs.Story.{Point, IsIn, answer_in, points_in, points_of}
+use Rattle.world_core.proofs.Begun.{is_on_begun, begun_path}
 use Rattle.world_core.proofs.Told.{point_times}
 use Rattle.world_core.proofs.Facts.{same_op-true, WaitsWell, path-cons, Adds}
 use Rattle.world_core.proofs.Outs.{points_in-append, points_in-decided, Answered, Answered-append, Answered-decided, undecided_keeps, without_op_keeps, KnownPending, pending_requested, stream_cases}
+use Rattle.world_core.proofs.Plain.{plain_message, is_from_table, plain_brought, plain_step}
 use Rattle.world_core.proofs.Setups.{exec_region, following_region}
 use Rattle.world_core.proofs.Nodes.{ExecutionFacts, AllRun, NodeFacts, StoreStays, PathsStay, holders-rest, kept, all_kept}
 use Rattle.world_core.proofs.Requesting.{point_at, RequestPoints, request_points, request_entry, request_answers, request_regions, request_hashes, request_paths, request_runs, region_stays, stays_weaker, stays_same}
@@ -92,7 +94,7 @@ record Middle (setup : SetupState) (past : List Entry) (e : Entry) (n : ℕ) (st
   state : StateFacts setup (e ∷ past) n step.node
   answers : (q : OpId) → Answered setup past e q (answer_in step.outs q)
 
-end_state : (setup : SetupState) (past : List Entry) (n : ℕ) (step : Stepped) → StateFacts setup past n step.node → StateFacts setup past n (end_step step).node
+end_state : (setup : SetupState) (past : List Entry) (n : ℕ) (step : Stepped) → StateFacts setup past n step.node → StateFacts setup past n (decide_step step).node
 end_state setup past n step f =
     record {
       begun = f.begun;
@@ -106,7 +108,7 @@ end_state setup past n step f =
           };
     }
 
-end_answers : (setup : SetupState) (past : List Entry) (e : Entry) (n : ℕ) (step : Stepped) → Middle setup past e n step → (q : OpId) → Answered setup past e q (answer_in (end_step step).outs q)
+end_answers : (setup : SetupState) (past : List Entry) (e : Entry) (n : ℕ) (step : Stepped) → Middle setup past e n step → (q : OpId) → Answered setup past e q (answer_in (decide_step step).outs q)
 end_answers setup past e n step m q =
     Answered-append setup past e q step.outs (decide_all_outs step.node.executions) (m.answers q)
     (Answered-decide_all setup past e step.node.rows step.node.versions step.node.executions m.state.facts.runs q)
@@ -114,8 +116,8 @@ end_answers setup past e n step m q =
 -- ---- entries without a point
 
 module _ (setup : SetupState) (past : List Entry) (e : Entry) where
-  path_still : points_of e.input e.outputs ≡ [] → (key : List ℕ) → path setup (e ∷ past) key ≡ path setup past key
-  path_still none key = path-cons setup past e key ∙ ap (λ (l : List Point). path setup past key ++ filter (is_on_path setup key) l) none ∙ append-nil (path setup past key)
+  path_still : points_of e.input e.outputs ≡ [] → (key : List ℕ) → begun_path setup (e ∷ past) key ≡ begun_path setup past key
+  path_still none key = path-cons setup past e key ∙ ap (λ (l : List Point). begun_path setup past key ++ filter (is_on_begun setup key) l) none ∙ append-nil (begun_path setup past key)
 
   paths_still : (count : ℕ → List ℕ → ℕ) → points_of e.input e.outputs ≡ [] → PathsStay setup count past e
   paths_still count none = record { stays = λ key _. path_still none key }
@@ -136,6 +138,18 @@ module _ (setup : SetupState) (past : List Entry) (e : Entry) where
     kept setup past e (λ h k. 0) rows rows versions versions x (λ h k i. refl) (stays_same setup.hashes (λ h k. 0) rows versions) (paths_still (λ h k. 0) none) f.0,
     still_runs rows versions xs none f.1,
   )
+
+-- a node that does nothing
+idle_middle : (setup : SetupState) (past : List Entry) (e : Entry) (n : ℕ) (s : NodeState) → points_of e.input e.outputs ≡ [] → StateFacts setup past n s → Middle setup past e n (silent s)
+idle_middle setup past e n s none f =
+    record {
+      state =
+          record {
+            begun = f.begun;
+            facts = record { hashes = f.facts.hashes; regions = f.facts.regions; followed = f.facts.followed; runs = still_runs setup past e s.rows s.versions s.executions none f.facts.runs };
+          };
+      answers = λ q. tt;
+    }
 
 -- ---- giving up
 
@@ -249,17 +263,11 @@ module _ (setup : SetupState) (past : List Entry) (node : NodeId) (number : ℕ)
   delivery = record { node = node; input = Deliver number; outputs = outs }
 
   silent_middle : (s : NodeState) → StateFacts setup past n s → Middle setup past delivery n (silent s)
-  silent_middle s f =
-      record {
-        state =
-            record {
-              begun = f.begun;
-              facts = record { hashes = f.facts.hashes; regions = f.facts.regions; followed = f.facts.followed; runs = still_runs setup past delivery s.rows s.versions s.executions refl f.facts.runs };
-            };
-        answers = λ q. tt;
-      }
+  silent_middle s f = idle_middle setup past delivery n s refl f
 
-  message_middle : (s : NodeState) (from : NodeId) (m : Sent) → HoldOne s.executions s.followings → StateFacts setup past n s → Middle setup past delivery n (message_row s from m)
+  message_middle : (s : NodeState) (from : NodeId) (m : Sent) → HoldOne s.executions s.followings → StateFacts setup past n s → Middle setup past delivery n (plain_message s from m)
+  message_middle s from (message.Raft m) one f = silent_middle s f
+  message_middle s from (message.Say contract ack) one f = silent_middle s f
   message_middle s from (message.Got got) one f =
       let facts = ExecutionFacts setup past s.rows s.versions in
       silent_middle (record s { executions = got_all s.executions from got })
@@ -292,10 +300,10 @@ module _ (setup : SetupState) (past : List Entry) (node : NodeId) (number : ℕ)
         answers = λ q. subst (λ (v : Option Outcome). Answered setup past delivery q v) (sym (known.quiet' q)) tt;
       }
 
-  brought_middle : (s : NodeState) (b : Option Brought) → HoldOne s.executions s.followings → StateFacts setup past n s → Middle setup past delivery n (brought_row s b)
+  brought_middle : (s : NodeState) (b : Option Brought) → HoldOne s.executions s.followings → StateFacts setup past n s → Middle setup past delivery n (plain_brought s b)
   brought_middle s None one f = silent_middle s f
   brought_middle s (Some b) one f =
-      cond_both (nat_lt b.from.0 s.setup.nodes) (message_row s b.from b.message) (silent s) (Middle setup past delivery n)
+      cond_both (is_from_table s b) (plain_message s b.from b.message) (silent s) (Middle setup past delivery n)
       (λ _. message_middle s b.from b.message one f) (λ _. silent_middle s f)
 
 -- ---- the whole step
@@ -307,19 +315,24 @@ pub record StepFacts (setup : SetupState) (past : List Entry) (n : ℕ) (executi
 
 -- the entry of a step
 abbrev pub step_entry : NodeId → NodeState → Input → Option Brought → Entry
-step_entry node s input b = record { node = node; input = input; outputs = (node_step s input b).outs }
+step_entry node s input b = record { node = node; input = input; outputs = (plain_step s input b).outs }
 
 -- a step without a point
-still_step : (setup : SetupState) (past : List Entry) (node : NodeId) (input : Input) (n : ℕ) (executions : List Execution) (step : Stepped) → is_fresh past input ≡ true → points_of input (end_step step).outs ≡ []
-    → Middle setup past (record { node = node; input = input; outputs = (end_step step).outs }) n step
-    → StepFacts setup past n executions (end_step step).node (record { node = node; input = input; outputs = (end_step step).outs })
+still_step : (setup : SetupState) (past : List Entry) (node : NodeId) (input : Input) (n : ℕ) (executions : List Execution) (step : Stepped) → is_fresh past input ≡ true → points_of input (decide_step step).outs ≡ []
+    → Middle setup past (record { node = node; input = input; outputs = (decide_step step).outs }) n step
+    → StepFacts setup past n executions (decide_step step).node (record { node = node; input = input; outputs = (decide_step step).outs })
 still_step setup past node input n executions step fresh none m =
-    let e : Entry = record { node = node; input = input; outputs = (end_step step).outs } in
+    let e : Entry = record { node = node; input = input; outputs = (decide_step step).outs } in
     record {
       adds = still_adds setup past e fresh none (end_answers setup past e n step m);
       own = end_state setup (e ∷ past) n step m.state;
       others = paths_still setup past e (holders exec_region executions) none;
     }
+
+nothing_step : (setup : SetupState) (past : List Entry) (node : NodeId) (input : Input) (n : ℕ) (s : NodeState) → is_fresh past input ≡ true → points_of input (decide_step (silent s)).outs ≡ []
+    → StateFacts setup past n s → StepFacts setup past n s.executions (decide_step (silent s)).node (record { node = node; input = input; outputs = (decide_step (silent s)).outs })
+nothing_step setup past node input n s fresh none f =
+    still_step setup past node input n s.executions (silent s) fresh none (idle_middle setup past (record { node = node; input = input; outputs = (decide_step (silent s)).outs }) n s none f)
 
 -- what a request adds
 request_adds : (setup : SetupState) (past : List Entry) (node : NodeId) (op : OpId) (key : List ℕ) (what : Op) (outs : List Output) (xs : List Execution) → is_fresh past (Request op key what) ≡ true
@@ -345,12 +358,12 @@ request_adds setup past node op key what outs xs fresh pts known =
 
 request_step : (setup : SetupState) (past : List Entry) (node : NodeId) (n : ℕ) (s : NodeState) (op : OpId) (key : List ℕ) (what : Op) → 0 < setup.hashes → is_fresh past (Request op key what) ≡ true → HoldOne s.executions s.followings
     → NodeFacts setup past n s.rows s.versions s.executions s.followings
-    → StepFacts setup past n s.executions (end_step (request_row (record s { setup = setup }) op key what)).node
-    (record { node = node; input = Request op key what; outputs = (end_step (request_row (record s { setup = setup }) op key what)).outs })
+    → StepFacts setup past n s.executions (decide_step (request_row (record s { setup = setup }) op key what)).node
+    (record { node = node; input = Request op key what; outputs = (decide_step (request_row (record s { setup = setup }) op key what)).outs })
 request_step setup past node n s op key what some fresh one f =
     let r : Requested = request_all setup.hashes s.executions s.rows s.versions op key what in
     let step : Stepped = with_requested (record s { setup = setup }) r in
-    let outs : List Output = (end_step step).outs in
+    let outs : List Output = (decide_step step).outs in
     let e : Entry = request_entry setup past node op key what outs in
     let pts : points_in what outs ≡ points_in what r.outs = points_in-end what r.outs r.executions in
     let these : RequestPoints setup.hashes s.executions op key what (points_in what outs) =
@@ -377,12 +390,16 @@ request_step setup past node n s op key what some fresh one f =
     }
 
 pub node_facts : (setup : SetupState) (past : List Entry) (node : NodeId) (n : ℕ) (s : NodeState) (input : Input) (b : Option Brought) → 0 < setup.hashes → is_fresh past input ≡ true → HoldOne s.executions s.followings
-    → StateFacts setup past n s → StepFacts setup past n s.executions (node_step s input b).node (step_entry node s input b)
+    → StateFacts setup past n s → StepFacts setup past n s.executions (plain_step s input b).node (step_entry node s input b)
 node_facts setup past node n s (Request op key what) b some fresh one f =
     let shape : record s { setup = setup } ≡ s = λ i. record s { setup = sym f.begun i } in
-    subst (λ (v : NodeState). StepFacts setup past n s.executions (node_step v (Request op key what) b).node (step_entry node v (Request op key what) b)) shape
+    subst (λ (v : NodeState). StepFacts setup past n s.executions (plain_step v (Request op key what) b).node (step_entry node v (Request op key what) b)) shape
     (request_step setup past node n s op key what some fresh one f.facts)
 node_facts setup past node n s (GiveUp op) b some fresh one f =
-    still_step setup past node (GiveUp op) n s.executions (give_up s op) refl refl (give_up_middle setup past node (end_step (give_up s op)).outs n s op f)
+    still_step setup past node (GiveUp op) n s.executions (give_up s op) refl refl (give_up_middle setup past node (decide_step (give_up s op)).outs n s op f)
+node_facts setup past node n s (See other up) b some fresh one f = nothing_step setup past node (See other up) n s refl refl f
+node_facts setup past node n s Tick b some fresh one f = nothing_step setup past node Tick n s refl refl f
 node_facts setup past node n s (Deliver number) b some fresh one f =
-    still_step setup past node (Deliver number) n s.executions (brought_row s b) refl refl (brought_middle setup past node number (end_step (brought_row s b)).outs n s b one f)
+    still_step setup past node (Deliver number) n s.executions (plain_brought s b) refl refl (brought_middle setup past node number (decide_step (plain_brought s b)).outs n s b one f)
+node_facts setup past node n s Crash b some fresh one f = nothing_step setup past node Crash n s refl refl f
+node_facts setup past node n s Restart b some fresh one f = nothing_step setup past node Restart n s refl refl f

@@ -8,8 +8,8 @@ use Rattle.branch_history.specs.declared.version.Version.{Version}
 use Rattle.exec_types.specs.Sessions.{same_id}
 use Rattle.store_api.specs.declared.Row.{Row}
 use Rattle.store_api.specs.Versions.{point}
-use Rattle.world_core.specs.Story.{Point, same_key, is_branch}
-use Rattle.world_core.specs.Stored.{row_step, row_after, is_up_to, is_on_path_to}
+use Rattle.world_core.specs.Story.{Point, same_key}
+use Rattle.world_core.specs.Stored.{row_step, row_after, is_branch, is_up_to, is_on_path_to}
 use Rattle.world_core.proofs.Told.{filter-append}
 
 abbrev pub path_at : List Point → List ℕ → Version → List Point

@@ -1,4 +1,4 @@
--- In every run each key has, at each node, the row that the path of its version leaves.
+-- In every quiet run each key has, at each node, the row that the path of its version leaves.
 use Rattle.std.proofs.Common.{◌≡◌, ℕ, zero, suc, ◌-◌, ◌<◌, ◌==◌, max, min, true, false, ◌&&◌, nat_le, List, [], ◌∷◌, ◌++◌, map, filter, Option, Some, None, is_some, inl, inr, refl, sym, ap, ◌∙◌, subst, arith, append-nil, sum}
 use Rattle.std.proofs.Math.Nat.{mod-lt}
 use Rattle.std.proofs.lemmas.Bool.{false≢true, or_cases, cond_both, eqb-true, eqb-false, le-leb}
@@ -14,14 +14,14 @@ use Rattle.register_laws.specs.declared.operation.Op.{Op}
 use Rattle.contract_types.specs.Setup.{SetupState, IsSetup}
 use Rattle.exec_types.specs.Sessions.{same_id}
 use Rattle.exec_types.specs.declared.input.Input.{Input}
-use Rattle.exec_types.specs.declared.input.Input.TheVariants.{Request, GiveUp, Deliver}
+use Rattle.exec_types.specs.declared.input.Input.TheVariants.{Request, GiveUp, See, Tick, Deliver, Crash, Restart}
 use Rattle.exec_types.specs.declared.message.Message.{Message as Sent}
 use Rattle.exec_types.specs.declared.message.Message.TheVariants as message
 use Rattle.exec_types.specs.declared.message.SessionName.{SessionName}
 use Rattle.exec_types.specs.declared.message.Got.{Got}
 use Rattle.exec_types.specs.declared.outcome.Outcome.TheVariants.{NoMajority}
 use Rattle.exec_types.specs.declared.output.Output.{Output}
-use Rattle.exec_types.specs.declared.output.Output.TheVariants.{Message, Dispatched, Answer}
+use Rattle.exec_types.specs.declared.output.Output.TheVariants.{Message, Dispatched, Viewed, Answer}
 use Rattle.store_api.specs.Rows.{Rows, row_of}
 use Rattle.store_api.specs.Versions.{point, version_of}
 use Rattle.write_dispatch.specs.declared.decided.Decided.{Decided}
@@ -31,11 +31,14 @@ use Rattle.primary_exec.specs.Execution.{Execution, is_live, is_session, with_ac
 use Rattle.node_core.specs.declared.node.Brought.{Brought}
 use Rattle.node_core.specs.declared.journal.Entry.{Entry}
 use Rattle.node_core.specs.Parts.{Requested, is_for, dispatched, passed_on, request_all, give_up_all_outs, decide_all_outs}
-use Rattle.node_core.specs.Step.{NodeState, Stepped, silent, executions_from, followings_from, begin_node, with_requested, request_row, give_up, take_got, message_row, is_well_formed, brought_row, end_step, node_step, serves}
+use Rattle.node_core.specs.Step.{NodeState, Stepped, silent, executions_from, followings_from, begin_node, with_requested, request_row, give_up, take_got, decide_step, serves}
 use Rattle.world_core.specs.declared.envelope.Envelope.{Envelope}
+use Rattle.world_core.specs.Quiet.{are_quiet}
 use Rattle.world_core.specs.Run.{sent_by, sent, opened, brought, state, IsRun}
-use Rattle.world_core.specs.Story.{Point, points_in, points_of, points, same_key, is_branch, path}
-use Rattle.world_core.specs.Stored.{row_after, is_on_path_to, path_row}
+use Rattle.world_core.specs.Story.{Point, points_in, points_of, points, same_key, path}
+use Rattle.world_core.specs.Stored.{row_after, is_branch, is_on_path_to, path_row}
+use Rattle.world_core.proofs.BegunPaths.{quiet_path}
+use Rattle.world_core.proofs.Plain.{plain_message, is_from_table, plain_brought, plain_step, quiet_past, quiet_outs, quiet_state}
 use Rattle.world_core.proofs.Setups.{exec_region, following_region, at_one_node, one_shard}
 use Rattle.world_core.proofs.Nodes.{ExecutionFacts, AllRun, holders-same}
 use Rattle.world_core.proofs.Steps.{StateFacts, HoldOne, points_in-end}
@@ -106,7 +109,7 @@ changed setup ps n s f same keeps h =
       branches = branches_map f same s.executions ∙ h.branches;
     }
 
-end_kept : (setup : SetupState) (ps more : List Point) (n : ℕ) (step : Stepped) → StepKept setup ps more n step → StepKept setup ps more n (end_step step)
+end_kept : (setup : SetupState) (ps more : List Point) (n : ℕ) (step : Stepped) → StepKept setup ps more n step → StepKept setup ps more n (decide_step step)
 end_kept setup ps more n step h =
     record {
       grows = h.grows;
@@ -162,7 +165,9 @@ executions_stand setup past rows versions xs some same f =
     (λ x k key has. ap (λ c. value_at versions.pieces (hash_of key c) key) same ∙ k.stands (hash_of key setup.hashes) key (mod-lt (sum key) some) has) xs f
 
 message_kept : (setup : SetupState) (past : List Entry) (n : ℕ) (s : NodeState) (from : NodeId) (m : Sent) → Before setup past n s → StateKept setup (points past) n s → SentTells (points past) m
-    → StepKept setup (points past) (points past) n (message_row s from m)
+    → StepKept setup (points past) (points past) n (plain_message s from m)
+message_kept setup past n s from (message.Raft m) before h t = still_kept setup (points past) n (silent s) h tt
+message_kept setup past n s from (message.Say contract ack) before h t = still_kept setup (points past) n (silent s) h tt
 message_kept setup past n s from (message.Got got) before h t = take_got_kept setup (points past) n s from got h
 message_kept setup past n s from (message.Stream stream) before h t =
     let r = stream_kept setup.hashes (points past) n s.rows s.versions s.executions s.followings from stream before.some before.facts.facts.hashes
@@ -170,14 +175,14 @@ message_kept setup past n s from (message.Stream stream) before h t =
     record { grows = r.grows; state = record { node = r.node; branches = h.branches }; tells = r.tells }
 
 brought_kept : (setup : SetupState) (past : List Entry) (n : ℕ) (s : NodeState) (b : Option Brought) → Before setup past n s → StateKept setup (points past) n s → BroughtTells (points past) b
-    → StepKept setup (points past) (points past) n (brought_row s b)
+    → StepKept setup (points past) (points past) n (plain_brought s b)
 brought_kept setup past n s None before h t = still_kept setup (points past) n (silent s) h tt
 brought_kept setup past n s (Some b) before h t =
-    cond_both (is_well_formed s b) (message_row s b.from b.message) (silent s) (StepKept setup (points past) (points past) n)
+    cond_both (is_from_table s b) (plain_message s b.from b.message) (silent s) (StepKept setup (points past) (points past) n)
     (λ _. message_kept setup past n s b.from b.message before h t) (λ _. still_kept setup (points past) n (silent s) h tt)
 
 request_step_kept : (setup : SetupState) (past : List Entry) (n : ℕ) (s : NodeState) (op : OpId) (key : List ℕ) (what : Op) → Before setup past n s → StateKept setup (points past) n s
-    → StepKept setup (points past) (points past ++ points_in what (end_step (request_row (record s { setup = setup }) op key what)).outs) n (end_step (request_row (record s { setup = setup }) op key what))
+    → StepKept setup (points past) (points past ++ points_in what (decide_step (request_row (record s { setup = setup }) op key what)).outs) n (decide_step (request_row (record s { setup = setup }) op key what))
 request_step_kept setup past n s op key what before h =
     let r : Requested = request_all setup.hashes s.executions s.rows s.versions op key what in
     let step : Stepped = with_requested (record s { setup = setup }) r in
@@ -190,20 +195,27 @@ request_step_kept setup past n s op key what before h =
       state = record { node = k.node; branches = request_branches setup.hashes s.executions s.rows s.versions op key what ∙ h.branches };
       tells = k.tells;
     } in
-    subst (λ l. StepKept setup (points past) (points past ++ l) n (end_step step)) (sym (points_in-end what r.outs r.executions)) (end_kept setup (points past) more n step kept)
+    subst (λ l. StepKept setup (points past) (points past ++ l) n (decide_step step)) (sym (points_in-end what r.outs r.executions)) (end_kept setup (points past) more n step kept)
 
 -- a step without a point
-without_point : (setup : SetupState) (ps : List Point) (n : ℕ) (step : Stepped) → StepKept setup ps ps n step → StepKept setup ps (ps ++ []) n (end_step step)
-without_point setup ps n step h = subst (λ l. StepKept setup ps l n (end_step step)) (sym (append-nil ps)) (end_kept setup ps ps n step h)
+without_point : (setup : SetupState) (ps : List Point) (n : ℕ) (step : Stepped) → StepKept setup ps ps n step → StepKept setup ps (ps ++ []) n (decide_step step)
+without_point setup ps n step h = subst (λ l. StepKept setup ps l n (decide_step step)) (sym (append-nil ps)) (end_kept setup ps ps n step h)
+
+idle_kept : (setup : SetupState) (past : List Entry) (n : ℕ) (s : NodeState) → StateKept setup (points past) n s → StepKept setup (points past) (points past ++ []) n (decide_step (silent s))
+idle_kept setup past n s h = without_point setup (points past) n (silent s) (still_kept setup (points past) n (silent s) h tt)
 
 step_kept : (setup : SetupState) (past : List Entry) (n : ℕ) (s : NodeState) (input : Input) (b : Option Brought) → Before setup past n s → StateKept setup (points past) n s → BroughtTells (points past) b
-    → StepKept setup (points past) (points past ++ points_of input (node_step s input b).outs) n (node_step s input b)
+    → StepKept setup (points past) (points past ++ points_of input (plain_step s input b).outs) n (plain_step s input b)
 step_kept setup past n s (Request op key what) b before h t =
     let shape : record s { setup = setup } ≡ s = λ i. record s { setup = sym before.facts.begun i } in
-    subst (λ (v : NodeState). StepKept setup (points past) (points past ++ points_in what (end_step (request_row v op key what)).outs) n (end_step (request_row v op key what))) shape
+    subst (λ (v : NodeState). StepKept setup (points past) (points past ++ points_in what (decide_step (request_row v op key what)).outs) n (decide_step (request_row v op key what))) shape
     (request_step_kept setup past n s op key what before h)
 step_kept setup past n s (GiveUp op) b before h t = without_point setup (points past) n (give_up s op) (give_up_kept setup (points past) n s op h)
-step_kept setup past n s (Deliver number) b before h t = without_point setup (points past) n (brought_row s b) (brought_kept setup past n s b before h t)
+step_kept setup past n s (See other up) b before h t = idle_kept setup past n s h
+step_kept setup past n s Tick b before h t = idle_kept setup past n s h
+step_kept setup past n s (Deliver number) b before h t = without_point setup (points past) n (plain_brought s b) (brought_kept setup past n s b before h t)
+step_kept setup past n s Crash b before h t = idle_kept setup past n s h
+step_kept setup past n s Restart b before h t = idle_kept setup past n s h
 
 -- ---- runs
 
@@ -219,6 +231,7 @@ sent_by_tells : (ps : List Point) (from : NodeId) (outs : List Output) → AllBy
 sent_by_tells ps from [] h = tt
 sent_by_tells ps from (Message to m ∷ outs) h = (h.0, sent_by_tells ps from outs h.1)
 sent_by_tells ps from (Dispatched op key branch timestamp ∷ outs) h = sent_by_tells ps from outs h.1
+sent_by_tells ps from (Viewed first results ∷ outs) h = sent_by_tells ps from outs h.1
 sent_by_tells ps from (Answer op outcome ∷ outs) h = sent_by_tells ps from outs h.1
 
 got_tells : (ps : List Point) (ms : List Envelope) (k : ℕ) → AllByRecursion (EnvelopeTells ps) ms → BroughtTells ps (opened (slice_get ms k))
@@ -229,6 +242,10 @@ got_tells ps (m ∷ ms) (suc k) h = got_tells ps ms k h.1
 brought_tells : (past : List Entry) (input : Input) → AllByRecursion (EnvelopeTells (points past)) (sent past) → BroughtTells (points past) (brought past input)
 brought_tells past (Request op key what) h = tt
 brought_tells past (GiveUp op) h = tt
+brought_tells past (See other up) h = tt
+brought_tells past Tick h = tt
+brought_tells past Crash h = tt
+brought_tells past Restart h = tt
 brought_tells past (Deliver number) h =
     cond_both (number == 0) None (slice_get (sent past) (number - 1)) (λ m. BroughtTells (points past) (opened m)) (λ _. tt) (λ _. got_tells (points past) (sent past) (number - 1) h)
 
@@ -252,15 +269,15 @@ hold_one setup ok past n s f h k =
     let d = one_shard setup ok h k in
     omega (arith, a, b, c, d)
 
-pub run_kept : (setup : SetupState) → IsSetup setup → (past : List Entry) → IsRun setup past → RunKept setup past
-run_kept setup ok [] h = record { below = tt; tells = tt; nodes = begin_state setup ok }
-run_kept setup ok (e ∷ past) h =
-    let r = run_kept setup ok past h.1 in
+pub run_kept : (setup : SetupState) → IsSetup setup → (past : List Entry) → IsRun setup past → are_quiet past ≡ true → RunKept setup past
+run_kept setup ok [] h quiet = record { below = tt; tells = tt; nodes = begin_state setup ok }
+run_kept setup ok (e ∷ past) h quiet =
+    let r = run_kept setup ok past h.1 (quiet_past e past quiet) in
     let n : ℕ = e.node.0 in
     let ps : List Point = points past in
     let s : NodeState = state setup n past in
     let b : Option Brought = brought past e.input in
-    let f = (run_facts setup ok past h.1).1 n in
+    let f = (run_facts setup ok past h.1 (quiet_past e past quiet)).1 n in
     let own = r.nodes n in
     let before : Before setup past n s = record {
       some = some_hash setup ok;
@@ -270,37 +287,38 @@ run_kept setup ok (e ∷ past) h =
       below = r.below;
     } in
     let more : List Point = ps ++ points_of e.input e.outputs in
-    let k : StepKept setup ps more n (node_step s e.input b) =
-    subst (λ outs. StepKept setup ps (ps ++ points_of e.input outs) n (node_step s e.input b)) (sym h.0.outputs) (step_kept setup past n s e.input b before own (brought_tells past e.input r.tells)) in
+    let k : StepKept setup ps more n (plain_step s e.input b) =
+    subst (λ outs. StepKept setup ps (ps ++ points_of e.input outs) n (plain_step s e.input b)) (sym (quiet_outs setup past e h quiet)) (step_kept setup past n s e.input b before own (brought_tells past e.input r.tells)) in
     record {
       below = k.grows.below r.below;
       tells =
           all_append (EnvelopeTells more) (sent past) (sent_by e.node e.outputs)
           (all_weaker (EnvelopeTells ps) (EnvelopeTells more) (λ m. sent_grown n ps more k.grows m.message) (sent past) r.tells)
-          (sent_by_tells more e.node e.outputs (subst (AllByRecursion (OutTells more)) (sym h.0.outputs) k.tells));
+          (sent_by_tells more e.node e.outputs (subst (AllByRecursion (OutTells more)) (sym (quiet_outs setup past e h quiet)) k.tells));
       nodes = λ m.
-          cond_both (n == m) (node_step (state setup m past) e.input b).node (state setup m past) (StateKept setup more m)
-          (λ same. subst (λ (i : ℕ). StateKept setup more i (node_step (state setup i past) e.input b).node) (eqb-true n m same) k.state)
+          subst (StateKept setup more m) (sym (quiet_state setup past e h.1 quiet m))
+          (cond_both (n == m) (plain_step (state setup m past) e.input b).node (state setup m past) (StateKept setup more m)
+          (λ same. subst (λ (i : ℕ). StateKept setup more i (plain_step (state setup i past) e.input b).node) (eqb-true n m same) k.state)
           (λ ne.
           let t : NodeState = state setup m past in
           let old = r.nodes m in
           record {
             node = other_kept n m setup.hashes ps more t.rows t.versions t.executions t.followings (λ is. eqb-false n m ne (sym is)) k.grows old.node;
             branches = old.branches;
-          });
+          }));
     }
 
 -- ---- what the law says
 
 -- the row of a key is what the path of its version leaves
-pub row_is : (setup : SetupState) → IsSetup setup → (past : List Entry) → IsRun setup past → (n : ℕ) (key : List ℕ) (version : Version) → version_of (state setup n past).versions key ≡ Some version
+pub row_is : (setup : SetupState) → IsSetup setup → (past : List Entry) → IsRun setup past → are_quiet past ≡ true → (n : ℕ) (key : List ℕ) (version : Version) → version_of (state setup n past).versions key ≡ Some version
     → row_of (state setup n past).rows key ≡ path_row past key version
-row_is setup ok past h n key version e =
+row_is setup ok past h quiet n key version e =
     let s : NodeState = state setup n past in
-    kept_row (points past) s.rows s.versions key version ((run_kept setup ok past h).nodes n).node.kept e
+    kept_row (points past) s.rows s.versions key version ((run_kept setup ok past h quiet).nodes n).node.kept e
 
-pub has_version : (setup : SetupState) → IsSetup setup → (past : List Entry) → IsRun setup past → (n : ℕ) (key : List ℕ) → is_some (version_of (state setup n past).versions key) ≡ true
-has_version setup ok past h n key = ap is_some (((run_kept setup ok past h).nodes n).node.kept key).stands
+pub has_version : (setup : SetupState) → IsSetup setup → (past : List Entry) → IsRun setup past → are_quiet past ≡ true → (n : ℕ) (key : List ℕ) → is_some (version_of (state setup n past).versions key) ≡ true
+has_version setup ok past h quiet n key = ap is_some (((run_kept setup ok past h quiet).nodes n).node.kept key).stands
 
 -- where all points are below, the path of a branch's last version has all points of the key on the branch
 whole_path : (ps all : List Point) (key : List ℕ) (branch : Id) → AllByRecursion (IsBelow all) ps → path_at ps key (point branch (taken all branch)) ≡ filter (λ p. same_key p.key key && same_id branch p.branch) ps
@@ -331,13 +349,13 @@ all_both P Q [] h k = tt
 all_both P Q (x ∷ xs) h k = ((h.0, k.0), all_both P Q xs h.1 k.1)
 
 -- at the node that serves a key the row is what all points on the path of the key's branch leave
-pub served_row : (setup : SetupState) → IsSetup setup → (past : List Entry) → IsRun setup past → (n : ℕ) (key : List ℕ) → serves (state setup n past) key ≡ true
+pub served_row : (setup : SetupState) → IsSetup setup → (past : List Entry) → IsRun setup past → are_quiet past ≡ true → (n : ℕ) (key : List ℕ) → serves (state setup n past) key ≡ true
     → row_of (state setup n past).rows key ≡ row_after None (path setup past key)
-served_row setup ok past h n key served =
+served_row setup ok past h quiet n key served =
     let s : NodeState = state setup n past in
     let ps : List Point = points past in
-    let kept = run_kept setup ok past h in
-    let f = (run_facts setup ok past h).1 n in
+    let kept = run_kept setup ok past h quiet in
+    let f = (run_facts setup ok past h quiet).1 n in
     let P : Execution → Type 0 = λ x. Runs ps n x × ExecutionFacts setup past s.rows s.versions x in
     let both = all_both (Runs ps n) (ExecutionFacts setup past s.rows s.versions) s.executions (kept.nodes n).node.runs f.facts.runs in
     let found = served_by P setup.hashes key s.executions both (ap (λ (v : SetupState). list_any (is_for v.hashes key) s.executions) (sym f.begun) ∙ served) in
@@ -348,4 +366,4 @@ served_row setup ok past h n key served =
     ap (λ c. value_at s.versions.pieces (hash_of key c) key) f.facts.hashes ∙ facts.stands (hash_of key setup.hashes) key (mod-lt (sum key) (some_hash setup ok)) found.2 in
     kept_row ps s.rows s.versions key (point x.branch x.last) (kept.nodes n).node.kept stands
     ∙ ap (λ t. row_at ps key (point x.branch t)) run.last
-    ∙ ap (row_after None) (whole_path ps ps key x.branch kept.below ∙ ap (λ o. filter (λ p. same_key p.key key && is_branch o p.branch) ps) (sym (facts.branch key found.2)))
+    ∙ ap (row_after None) (whole_path ps ps key x.branch kept.below ∙ ap (λ o. filter (λ p. same_key p.key key && is_branch o p.branch) ps) (sym (facts.branch key found.2)) ∙ sym (quiet_path setup past h quiet key))

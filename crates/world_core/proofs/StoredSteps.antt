@@ -22,7 +22,7 @@ use Rattle.exec_types.specs.declared.message.Part.TheVariants.{Write, Sync}
 use Rattle.exec_types.specs.declared.message.Stream.{Stream}
 use Rattle.exec_types.specs.declared.outcome.Outcome.TheVariants.{NotServing}
 use Rattle.exec_types.specs.declared.output.Output.{Output}
-use Rattle.exec_types.specs.declared.output.Output.TheVariants.{Message, Dispatched, Answer}
+use Rattle.exec_types.specs.declared.output.Output.TheVariants.{Message, Dispatched, Viewed, Answer}
 use Rattle.store_api.specs.Rows.{Rows, has_key, value_of}
 use Rattle.store_api.specs.Versions.{version_of, advanced_rows, advanced_map}
 use Rattle.primary_exec.specs.declared.session.Session.{Session}
@@ -105,12 +105,15 @@ pub record StreamTells (ps : List Point) (s : Stream) : Type 0 where
   pub tells : Tells ps s.session.opened at s.part
 
 abbrev pub SentTells : List Point → Sent → Type 0
+SentTells ps (message.Raft m) = Unit {0}
+SentTells ps (message.Say contract ack) = Unit {0}
 SentTells ps (message.Stream s) = StreamTells ps s
 SentTells ps (message.Got g) = Unit {0}
 
 abbrev pub OutTells : List Point → Output → Type 0
 OutTells ps (Message to m) = SentTells ps m
 OutTells ps (Dispatched op key branch timestamp) = Unit {0}
+OutTells ps (Viewed first results) = Unit {0}
 OutTells ps (Answer op outcome) = Unit {0}
 
 -- ---- more points, of another node or of none
@@ -119,6 +122,8 @@ pub stream_grown : (n : ℕ) (ps more : List Point) (s : Stream) → Grows n ps 
 stream_grown n ps more s g t = record { at = t.at; number = t.number; time = t.time; tells = tells_grown n ps more s.session.opened t.at s.part g t.tells }
 
 pub sent_grown : (n : ℕ) (ps more : List Point) → Grows n ps more → (m : Sent) → SentTells ps m → SentTells more m
+sent_grown n ps more g (message.Raft m) t = tt
+sent_grown n ps more g (message.Say contract ack) t = tt
 sent_grown n ps more g (message.Stream s) t = stream_grown n ps more s g t
 sent_grown n ps more g (message.Got got) t = tt
 

@@ -1,5 +1,5 @@
--- For whom the messages of a run are.
-use Rattle.std.proofs.Common.{◌≡◌, ℕ, zero, suc, ◌+◌, ◌<◌, ◌==◌, true, cond, not, ◌&&◌, nat_lt, nat_le, List, [], ◌∷◌, ◌++◌, map, filter, Option, Some, None, sym, ◌∙◌, subst, arith}
+-- For whom the messages of a quiet run are.
+use Rattle.std.proofs.Common.{◌≡◌, ℕ, zero, suc, ◌+◌, ◌<◌, ◌-◌, ◌==◌, Bool, true, cond, not, ◌&&◌, nat_lt, nat_le, List, [], ◌∷◌, ◌++◌, map, filter, Option, Some, None, sym, subst, arith}
 use Rattle.std.proofs.lemmas.Bool.{cond_both, and_parts, ltb-true}
 use Rattle.std.specs.List.{AllByRecursion}
 use Rattle.std.specs.Prelude.{slice_get}
@@ -10,7 +10,7 @@ use Rattle.register_laws.specs.declared.operation.OpId.{OpId}
 use Rattle.register_laws.specs.declared.operation.Op.{Op}
 use Rattle.contract_types.specs.Setup.{SetupState, IsSetup}
 use Rattle.exec_types.specs.declared.input.Input.{Input}
-use Rattle.exec_types.specs.declared.input.Input.TheVariants.{Request, GiveUp, Deliver}
+use Rattle.exec_types.specs.declared.input.Input.TheVariants.{Request, GiveUp, See, Tick, Deliver, Crash, Restart}
 use Rattle.exec_types.specs.declared.message.Message.{Message as Sent}
 use Rattle.exec_types.specs.declared.message.Message.TheVariants as message
 use Rattle.exec_types.specs.declared.message.SessionName.{SessionName}
@@ -19,7 +19,7 @@ use Rattle.exec_types.specs.declared.message.Part.{Part}
 use Rattle.exec_types.specs.declared.message.Stream.{Stream}
 use Rattle.exec_types.specs.declared.outcome.Outcome.TheVariants.{NoMajority}
 use Rattle.exec_types.specs.declared.output.Output.{Output}
-use Rattle.exec_types.specs.declared.output.Output.TheVariants.{Message, Dispatched, Answer}
+use Rattle.exec_types.specs.declared.output.Output.TheVariants.{Message, Dispatched, Viewed, Answer}
 use Rattle.store_api.specs.Rows.{Rows, value_of}
 use Rattle.write_dispatch.specs.declared.decided.Decided.{Decided}
 use Rattle.write_dispatch.specs.Dispatch.{counts_of, is_decided, pending_of}
@@ -30,17 +30,19 @@ use Rattle.secondary_exec.specs.Stream.{FollowingStep, stream_row, is_ours, take
 use Rattle.node_core.specs.declared.node.Brought.{Brought}
 use Rattle.node_core.specs.declared.journal.Entry.{Entry}
 use Rattle.node_core.specs.Parts.{Requested, Streamed, is_for, dispatched, passed_on, request_all, taken, left_alone, stream_all, got_all, give_up_all, give_up_all_outs, decide_all, decide_all_outs}
-use Rattle.node_core.specs.Step.{NodeState, Stepped, silent, message_row, is_well_formed, brought_row, input_row, node_step, ends_numbers}
+use Rattle.node_core.specs.Step.{NodeState, Stepped, silent, ends_numbers}
 use Rattle.world_core.specs.declared.envelope.Envelope.{Envelope}
-use Rattle.world_core.specs.Run.{sent_by, sent, message_at, arrives, is_fresh, brought, state, IsStep, IsRun}
+use Rattle.world_core.specs.Quiet.{are_quiet}
+use Rattle.world_core.specs.Run.{sent_by, sent, message_at, names_node, arrives, suits, is_fresh, brought, state, IsStep, IsRun}
+use Rattle.world_core.proofs.Plain.{plain_message, is_from_table, plain_brought, plain_row, plain_step, all_append, quiet_past, quiet_outs, quiet_state}
 use Rattle.world_core.proofs.Setups.{begins_within}
-use Rattle.world_core.proofs.Waits.{numbered_from}
 
 -- ---- what names a node of the table
 
 abbrev GoesWithin : ℕ → Output → Type 0
 GoesWithin nodes (Message to message) = nat_lt to.0 nodes ≡ true
 GoesWithin nodes (Dispatched op key branch timestamp) = Unit {0}
+GoesWithin nodes (Viewed first results) = Unit {0}
 GoesWithin nodes (Answer op outcome) = Unit {0}
 
 abbrev IsWith : ℕ → Session → Type 0
@@ -69,10 +71,6 @@ record KnowsTable (nodes : ℕ) (s : NodeState) : Type 0 where
   follows : AllFollowWithin nodes s.followings
 
 -- ---- lists
-
-all_append : {A : Type 0} (P : A → Type 0) (xs ys : List A) → AllByRecursion P xs → AllByRecursion P ys → AllByRecursion P (xs ++ ys)
-all_append P [] ys h k = k
-all_append P (x ∷ xs) ys h k = (h.0, all_append P xs ys h.1 k)
 
 module _ (nodes : ℕ) where
   within_room : (ss : List Session) → AllByRecursion (IsWith nodes) ss → AllByRecursion (IsWith nodes) (filter has_room ss)
@@ -186,29 +184,35 @@ module _ (nodes : ℕ) where
   silent_stays : (s : NodeState) → KnowsTable nodes s → StaysWithin nodes (silent s)
   silent_stays s h = record { outs = tt; sessions = h.sessions; follows = h.follows }
 
-  message_stays : (s : NodeState) (from : NodeId) (m : Sent) → KnowsTable nodes s → StaysWithin nodes (message_row s from m)
+  message_stays : (s : NodeState) (from : NodeId) (m : Sent) → KnowsTable nodes s → StaysWithin nodes (plain_message s from m)
+  message_stays s from (message.Raft m) h = silent_stays s h
+  message_stays s from (message.Say contract ack) h = silent_stays s h
   message_stays s from (message.Stream stream) h =
       let r = stream_within s.followings s.rows s.versions from stream h.follows in
       record { outs = r.outs; sessions = h.sessions; follows = r.follows }
   message_stays s from (message.Got got) h = record { outs = tt; sessions = got_within s.executions from got h.sessions; follows = h.follows }
 
-  brought_stays : (s : NodeState) (b : Option Brought) → KnowsTable nodes s → StaysWithin nodes (brought_row s b)
+  brought_stays : (s : NodeState) (b : Option Brought) → KnowsTable nodes s → StaysWithin nodes (plain_brought s b)
   brought_stays s None h = silent_stays s h
   brought_stays s (Some b) h =
-      cond_both (is_well_formed s b) (message_row s b.from b.message) (silent s) (StaysWithin nodes) (λ _. message_stays s b.from b.message h) (λ _. silent_stays s h)
+      cond_both (is_from_table s b) (plain_message s b.from b.message) (silent s) (StaysWithin nodes) (λ _. message_stays s b.from b.message h) (λ _. silent_stays s h)
 
-  row_stays : (s : NodeState) (input : Input) (b : Option Brought) → KnowsTable nodes s → StaysWithin nodes (input_row s input b)
+  row_stays : (s : NodeState) (input : Input) (b : Option Brought) → KnowsTable nodes s → StaysWithin nodes (plain_row s input b)
   row_stays s (Request op key what) b h =
       let r = request_within s.setup.hashes s.executions s.rows s.versions op key what h.sessions in
       record { outs = r.outs; sessions = r.sessions; follows = h.follows }
   row_stays s (GiveUp op) b h =
       let r = give_up_within s.executions op h.sessions in
       record { outs = r.0; sessions = r.1; follows = h.follows }
+  row_stays s (See other up) b h = silent_stays s h
+  row_stays s Tick b h = silent_stays s h
   row_stays s (Deliver number) b h = brought_stays s b h
+  row_stays s Crash b h = silent_stays s h
+  row_stays s Restart b h = silent_stays s h
 
-  step_stays : (s : NodeState) (input : Input) (b : Option Brought) → KnowsTable nodes s → StaysWithin nodes (node_step s input b)
+  step_stays : (s : NodeState) (input : Input) (b : Option Brought) → KnowsTable nodes s → StaysWithin nodes (plain_step s input b)
   step_stays s input b h =
-      let step : Stepped = input_row s input b in
+      let step : Stepped = plain_row s input b in
       let r = row_stays s input b h in
       record {
         outs = all_append (GoesWithin nodes) step.outs (decide_all_outs step.node.executions) r.outs (within_all_decided step.node.executions);
@@ -221,17 +225,22 @@ module _ (nodes : ℕ) where
 -- the node of an entry is one of the table
 pub node_within : (setup : SetupState) (past : List Entry) (e : Entry) → IsStep setup past e → nat_lt e.node.0 setup.nodes ≡ true
 node_within setup past e h =
-    let most = and_parts (nat_lt e.node.0 setup.nodes && arrives past e.node e.input && is_fresh past e.input) (not (ends_numbers (state setup e.node.0 past) e.input (brought past e.input))) h.allowed in
-    let more = and_parts (nat_lt e.node.0 setup.nodes && arrives past e.node e.input) (is_fresh past e.input) most.0 in
-    (and_parts (nat_lt e.node.0 setup.nodes) (arrives past e.node e.input) more.0).0
+    let s : NodeState = state setup e.node.0 past in
+    let named : Bool = nat_lt e.node.0 setup.nodes && names_node setup e.input in
+    let most = and_parts (named && arrives past e.node e.input && suits s.up e.input && is_fresh past e.input) (not (ends_numbers s e.input (brought past e.input))) h.allowed in
+    let fits = and_parts (named && arrives past e.node e.input && suits s.up e.input) (is_fresh past e.input) most.0 in
+    let comes = and_parts (named && arrives past e.node e.input) (suits s.up e.input) fits.0 in
+    let names = and_parts named (arrives past e.node e.input) comes.0 in
+    (and_parts (nat_lt e.node.0 setup.nodes) (names_node setup e.input) names.0).0
 
-knows_table : (setup : SetupState) → IsSetup setup → (past : List Entry) (n : ℕ) → n < setup.nodes → KnowsTable setup.nodes (state setup n past)
-knows_table setup valid [] n h = let begun = begins_within setup valid n h in record { sessions = begun.0; follows = begun.1 }
-knows_table setup valid (e ∷ past) n h =
-    let before = knows_table setup valid past n h in
+knows_table : (setup : SetupState) → IsSetup setup → (past : List Entry) → IsRun setup past → are_quiet past ≡ true → (n : ℕ) → n < setup.nodes → KnowsTable setup.nodes (state setup n past)
+knows_table setup valid [] run all_quiet n h = let begun = begins_within setup valid n h in record { sessions = begun.0; follows = begun.1 }
+knows_table setup valid (e ∷ past) run all_quiet n h =
+    let before = knows_table setup valid past run.1 (quiet_past e past all_quiet) n h in
     let after = step_stays setup.nodes (state setup n past) e.input (brought past e.input) before in
-    cond_both (e.node.0 == n) (node_step (state setup n past) e.input (brought past e.input)).node (state setup n past) (KnowsTable setup.nodes)
-    (λ _. record { sessions = after.sessions; follows = after.follows }) (λ _. before)
+    subst (KnowsTable setup.nodes) (sym (quiet_state setup past e run.1 all_quiet n))
+    (cond_both (e.node.0 == n) (plain_step (state setup n past) e.input (brought past e.input)).node (state setup n past) (KnowsTable setup.nodes)
+    (λ _. record { sessions = after.sessions; follows = after.follows }) (λ _. before))
 
 -- a message from a node of the table to one
 abbrev pub IsWithin : ℕ → Envelope → Type 0
@@ -241,15 +250,17 @@ sent_by_within : (nodes : ℕ) (from : NodeId) (outs : List Output) → from.0 <
 sent_by_within nodes from [] f h = tt
 sent_by_within nodes from (Message to message ∷ outs) f h = ((f, ltb-true to.0 nodes h.0), sent_by_within nodes from outs f h.1)
 sent_by_within nodes from (Dispatched op key branch timestamp ∷ outs) f h = sent_by_within nodes from outs f h.1
+sent_by_within nodes from (Viewed first results ∷ outs) f h = sent_by_within nodes from outs f h.1
 sent_by_within nodes from (Answer op outcome ∷ outs) f h = sent_by_within nodes from outs f h.1
 
-sent_within : (setup : SetupState) → IsSetup setup → (past : List Entry) → IsRun setup past → AllByRecursion (IsWithin setup.nodes) (sent past)
-sent_within setup valid [] h = tt
-sent_within setup valid (e ∷ past) h =
+sent_within : (setup : SetupState) → IsSetup setup → (past : List Entry) → IsRun setup past → are_quiet past ≡ true → AllByRecursion (IsWithin setup.nodes) (sent past)
+sent_within setup valid [] h all_quiet = tt
+sent_within setup valid (e ∷ past) h all_quiet =
+    let earlier = quiet_past e past all_quiet in
     let node = ltb-true e.node.0 setup.nodes (node_within setup past e h.0) in
-    let step = step_stays setup.nodes (state setup e.node.0 past) e.input (brought past e.input) (knows_table setup valid past e.node.0 node) in
-    let outs = subst (AllByRecursion (GoesWithin setup.nodes)) (sym h.0.outputs) step.outs in
-    all_append (IsWithin setup.nodes) (sent past) (sent_by e.node e.outputs) (sent_within setup valid past h.1) (sent_by_within setup.nodes e.node e.outputs node outs)
+    let step = step_stays setup.nodes (state setup e.node.0 past) e.input (brought past e.input) (knows_table setup valid past h.1 earlier e.node.0 node) in
+    let outs = subst (AllByRecursion (GoesWithin setup.nodes)) (sym (quiet_outs setup past e h all_quiet)) step.outs in
+    all_append (IsWithin setup.nodes) (sent past) (sent_by e.node e.outputs) (sent_within setup valid past h.1 earlier) (sent_by_within setup.nodes e.node e.outputs node outs)
 
 all_at : {A : Type 0} (P : A → Type 0) (xs : List A) (k : ℕ) (x : A) → AllByRecursion P xs → slice_get xs k ≡ Some x → P x
 all_at P [] k x h e = cc
@@ -257,6 +268,7 @@ all_at P (y ∷ ys) zero x h e = let same : y ≡ x = cc in subst P same h.0
 all_at P (y ∷ ys) (suc k) x h e = all_at P ys k x h.1 e
 
 -- each message goes from a node of the table to one
-pub message_within : (setup : SetupState) → IsSetup setup → (past : List Entry) → IsRun setup past → (number : ℕ) (m : Envelope) → message_at past number ≡ Some m → IsWithin setup.nodes m
-message_within setup valid past h zero m e = cc
-message_within setup valid past h (suc k) m e = all_at (IsWithin setup.nodes) (sent past) k m (sent_within setup valid past h) (sym (numbered_from (sent past) k) ∙ e)
+pub message_within : (setup : SetupState) → IsSetup setup → (past : List Entry) → IsRun setup past → are_quiet past ≡ true → (number : ℕ) (m : Envelope) → message_at past number ≡ Some m → IsWithin setup.nodes m
+message_within setup valid past h all_quiet number m e =
+    cond_both (number == 0) None (slice_get (sent past) (number - 1)) (λ (o : Option Envelope). o ≡ Some m → IsWithin setup.nodes m)
+    (λ _ none. cc) (λ _ some. all_at (IsWithin setup.nodes) (sent past) (number - 1) m (sent_within setup valid past h all_quiet) some) e

@@ -4,7 +4,7 @@ use Rattle.register_laws.specs.declared.operation.OpId.{OpId}
 use Rattle.contract_types.specs.Setup.{SetupState}
 use Rattle.contract_types.specs.declared.counts.Counts.{Counts}
 use Rattle.exec_types.specs.declared.input.Input.{Input}
-use Rattle.exec_types.specs.declared.input.Input.TheVariants.{Request, GiveUp, Deliver}
+use Rattle.exec_types.specs.declared.input.Input.TheVariants.{Request, GiveUp, See, Tick, Deliver, Crash, Restart}
 use Rattle.write_dispatch.specs.declared.decided.Decided.{Decided}
 use Rattle.write_dispatch.specs.Dispatch.{counts_of, pending_of}
 use Rattle.primary_exec.specs.Execution.{Execution}
@@ -30,7 +30,11 @@ pending_counts (x ∷ xs) op = or_counts (counts_pending x (pending_of x.dispatc
 abbrev pub IsGivenUpBy : NodeState → Input → OpId → Counts → Type 0
 IsGivenUpBy s (Request q key what) op counts = ⊥
 IsGivenUpBy s (GiveUp q) op counts = (q ≡ op) × (pending_counts s.executions op ≡ Some counts)
+IsGivenUpBy s (See other up) op counts = ⊥
+IsGivenUpBy s Tick op counts = ⊥
 IsGivenUpBy s (Deliver number) op counts = ⊥
+IsGivenUpBy s Crash op counts = ⊥
+IsGivenUpBy s Restart op counts = ⊥
 
 -- an entry gives the operation up at a node where it is pending with these counts
 abbrev pub IsGivenUp : SetupState → List Entry → OpId → Counts → Type 0

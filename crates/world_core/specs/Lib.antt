@@ -1,5 +1,10 @@
 pub mod Answers
+pub mod Committed
 pub mod GivenUp
+pub mod Latest
+pub mod Pairs
+pub mod Quiet
+pub mod Rising
 pub mod Run
 pub mod Served
 pub mod Stored

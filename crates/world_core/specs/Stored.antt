@@ -1,11 +1,13 @@
 -- The row that the operations on the path of a version leave a key.
-use Rattle.std.specs.Prelude.{ℕ, Bool, ◌&&◌, nat_le, List, [], ◌∷◌, filter, Option, Some, None, if◌then◌else◌}
+use Rattle.std.specs.Prelude.{ℕ, Bool, false, ◌&&◌, nat_le, List, [], ◌∷◌, filter, Option, Some, None, if◌then◌else◌}
+use Rattle.region_map.specs.declared.id.Id.{Id}
 use Rattle.branch_history.specs.declared.version.Version.{Version}
 use Rattle.register_laws.specs.Register.{state_after, writes}
+use Rattle.exec_types.specs.Sessions.{same_id}
 use Rattle.store_api.specs.declared.Row.{Row}
 use Rattle.store_api.specs.Rows.{value_in}
 use Rattle.node_core.specs.declared.journal.Entry.{Entry}
-use Rattle.world_core.specs.Story.{Point, points, same_key, is_branch}
+use Rattle.world_core.specs.Story.{Point, points, same_key}
 
 -- the row of a key after an operation on it: one that writes leaves what the register then holds, with its own
 -- timestamp as the recency, and any other changes nothing
@@ -18,6 +20,11 @@ row_step before p =
 abbrev pub row_after : Option Row → List Point → Option Row
 row_after before [] = before
 row_after before (p ∷ ps) = row_after (row_step before p) ps
+
+-- whether a branch, where there is one, is this one
+abbrev pub is_branch : Option Id → Id → Bool
+is_branch None id = false
+is_branch (Some branch) id = same_id branch id
 
 -- whether a point lies on the path of a version: the points of the version's branch up to its timestamp, as each
 -- branch goes on from nothing

@@ -4,21 +4,24 @@ use Rattle.std.specs.Cmp.Lexicographic.{pointwise}
 use Rattle.region_map.specs.declared.id.Id.{Id}
 use Rattle.region_map.specs.Keys.{hash_of}
 use Rattle.contract_types.specs.Setup.{SetupState}
-use Rattle.contract_types.specs.Tables.{branch_at, setup as table_of}
+use Rattle.contract_types.specs.Tables.{Table, branch_at}
+use Rattle.branch_history.specs.declared.version.Version.{Version}
+use Rattle.branch_history.specs.Paths.{is_on, whole}
+use Rattle.store_api.specs.Versions.{point}
 use Rattle.register_laws.specs.declared.operation.OpId.{OpId}
 use Rattle.register_laws.specs.declared.operation.Op.{Op}
 use Rattle.register_laws.specs.declared.operation.Reply.{Reply}
 use Rattle.register_laws.specs.declared.operation.Told.{Told}
 use Rattle.register_laws.specs.Lists.{IsLegal, told_from, is_read, same_op}
-use Rattle.exec_types.specs.Sessions.{same_id}
 use Rattle.exec_types.specs.declared.input.Input.{Input}
-use Rattle.exec_types.specs.declared.input.Input.TheVariants.{Request, GiveUp, Deliver}
+use Rattle.exec_types.specs.declared.input.Input.TheVariants.{Request, GiveUp, See, Tick, Deliver, Crash, Restart}
 use Rattle.exec_types.specs.declared.outcome.Outcome.{Outcome}
 use Rattle.exec_types.specs.declared.outcome.Outcome.TheVariants.{Done, NotServing, NoMajority}
 use Rattle.exec_types.specs.declared.output.Output.{Output}
-use Rattle.exec_types.specs.declared.output.Output.TheVariants.{Message, Dispatched, Answer}
+use Rattle.exec_types.specs.declared.output.Output.TheVariants.{Message, Dispatched, Viewed, Answer}
 use Rattle.node_core.specs.declared.journal.Entry.{Entry}
 use Rattle.world_core.specs.Run.{requests}
+use Rattle.world_core.specs.Latest.{told_table}
 
 -- ---- answers
 
@@ -26,6 +29,7 @@ abbrev pub answer_in : List Output → OpId → Option Outcome
 answer_in [] op = None
 answer_in (Message to message ∷ outs) op = answer_in outs op
 answer_in (Dispatched q key branch timestamp ∷ outs) op = answer_in outs op
+answer_in (Viewed first results ∷ outs) op = answer_in outs op
 answer_in (Answer q outcome ∷ outs) op = if same_op q op then Some outcome else answer_in outs op
 
 abbrev pub or_else : Option Outcome → Option Outcome → Option Outcome
@@ -72,12 +76,17 @@ points_in what [] = []
 points_in what (Message to message ∷ outs) = points_in what outs
 points_in what (Dispatched op key branch timestamp ∷ outs) =
     record { op = op; what = what; key = key; branch = branch; timestamp = timestamp } ∷ points_in what outs
+points_in what (Viewed first results ∷ outs) = points_in what outs
 points_in what (Answer op outcome ∷ outs) = points_in what outs
 
 abbrev pub points_of : Input → List Output → List Point
 points_of (Request op key what) outs = points_in what outs
 points_of (GiveUp op) outs = []
+points_of (See other up) outs = []
+points_of Tick outs = []
 points_of (Deliver number) outs = []
+points_of Crash outs = []
+points_of Restart outs = []
 
 -- every point that a journal dispatches, the oldest first
 abbrev pub points : List Entry → List Point
@@ -89,21 +98,22 @@ points (e ∷ past) = points past ++ points_of e.input e.outputs
 abbrev pub same_key : List ℕ → List ℕ → Bool
 same_key = pointwise nat_eq
 
--- the current branch of a key: each key has one from the beginning
-abbrev pub branch_of : SetupState → List ℕ → Option Id
-branch_of setup key = branch_at (table_of setup).history (hash_of key setup.hashes) key
+-- the branch of a key in a table: the one registered last for it. Each key has one from the beginning
+abbrev pub branch_in : SetupState → Table → List ℕ → Option Id
+branch_in setup t key = branch_at t.history (hash_of key setup.hashes) key
 
-abbrev pub is_branch : Option Id → Id → Bool
-is_branch None id = false
-is_branch (Some branch) id = same_id branch id
+-- whether a version lies on the path of the whole of a branch
+abbrev pub is_on_branch : SetupState → Table → List ℕ → Option Id → Version → Bool
+is_on_branch setup t key None v = false
+is_on_branch setup t key (Some branch) v = is_on t.history (hash_of key setup.hashes) key (whole branch) v
 
--- whether a point lies on the path of the current branch of a key
-abbrev pub is_on_path : SetupState → List ℕ → Point → Bool
-is_on_path setup key p = same_key p.key key && is_branch (branch_of setup key) p.branch
+-- whether a point is of a key, and lies on the path of the key's branch
+abbrev pub is_on_path : SetupState → Table → List ℕ → Point → Bool
+is_on_path setup t key p = same_key p.key key && is_on_branch setup t key (branch_in setup t key) (point p.branch p.timestamp)
 
--- the points of a key in the order of the path, which is that of their timestamps
+-- the points of a key on the path of its branch, as they were dispatched
 abbrev pub path : SetupState → List Entry → List ℕ → List Point
-path setup past key = filter (is_on_path setup key) (points past)
+path setup past key = filter (is_on_path setup (told_table setup past) key) (points past)
 
 -- a read stands in the story once it is done; any other operation once it is dispatched
 abbrev pub is_shown : List Entry → OpId → Op → Bool
@@ -148,7 +158,11 @@ stands_before (t ∷ ts) a b = (same_op t.op a && has_told ts b) || stands_befor
 abbrev pub Requests : Input → List ℕ → OpId → Op → Type 0
 Requests (Request q k w) key op what = (q ≡ op) × (k ≡ key) × (w ≡ what)
 Requests (GiveUp q) key op what = ⊥
+Requests (See other up) key op what = ⊥
+Requests Tick key op what = ⊥
 Requests (Deliver number) key op what = ⊥
+Requests Crash key op what = ⊥
+Requests Restart key op what = ⊥
 
 abbrev pub IsRequested : List Entry → List ℕ → OpId → Op → Type 0
 IsRequested [] key op what = ⊥

@@ -1,19 +1,21 @@
 //! Messages on their way.
-ghost use Rattle.std.specs.Prelude.{◌≡◌, ℕ, ◌+◌, ◌==◌, ◌||◌, ◌++◌, ◌∷◌, [], Some, OnOk, IfOk, length, option_copied};
-ghost use Rattle.std.specs.Ordering.{nat_cmp};
-ghost use Rattle.std.specs.BTreeSet.{contains};
+ghost use Rattle.std.specs.Prelude.{◌≡◌, ℕ, ◌+◌, ◌==◌, ◌<◌, ◌&&◌, ◌||◌, ◌++◌, ◌∷◌, [], Some, OnOk, IfOk, List, length, option_copied};
+ghost use Rattle.region_map.specs.declared.id.NodeId.{NodeId};
+ghost use Rattle.exec_types.specs.declared.output.Output.{Output};
+ghost use Rattle.world_core.specs.declared.envelope.Envelope.{Envelope};
 ghost use Rattle.world_core.specs.Run.{sent_by, numbered, opened};
-ghost use Rattle.world_core.specs.Waiting.{is_new};
+ghost use Rattle.world_core.specs.Waiting.{is_between};
+ghost use Rattle.world_core.specs.Pairs.{pair_has, comes_between};
 
+use crate::waiting_sets::WaitingSets;
 use exec_types::{Message, Output};
 use memory::OutOfMemory;
 use node_core::Brought;
 use region_map::NodeId;
 use std::alloc::Global;
-use std::collections::BTreeSet;
 
 /// A message with its sender and the node that it is for.
-#[derive(Debug, Drop)]
+#[derive(Drop)]
 pub struct Envelope {
     pub from: NodeId,
     pub to: NodeId,
@@ -45,15 +47,49 @@ pub fn open(alloc: Global, envelope: &Envelope) -> Result<Brought, OutOfMemory>
 /// Puts a message behind those that were sent before. It waits.
 fn send(
     sent: &mut Vec<Envelope>,
-    waits: &mut BTreeSet<u64>,
+    waits: &mut WaitingSets,
     envelope: Envelope,
 ) -> Result<(), OutOfMemory>
     ensures sent { OnOk result (sent.new.items ≡ sent.old.items ++ envelope ∷ []) }
-    ensures waits { OnOk result ((n : ℕ) → contains nat_cmp waits.new n
-        ≡ ((length sent.old.items + 1 == n) || contains nat_cmp waits.old n)) }
+    ensures nodes { waits.new.nodes ≡ waits.old.nodes }
+    ensures waits { OnOk result ((a b : NodeId) → a.0 < waits.old.nodes → b.0 < waits.old.nodes → (n : ℕ)
+        → pair_has waits.new a b n
+        ≡ (comes_between (length sent.old.items) sent.new.items a b n || pair_has waits.old a b n)) }
 {
+    waits.add(&envelope, sent.len() as u64 + 1)?;
     sent.push(envelope)?;
-    waits.insert(sent.len() as u64)?;
+    Ok(())
+}
+
+/// Puts the message of an output, if it is one, behind those that were sent before. It waits.
+fn put_output(
+    alloc: Global,
+    from: NodeId,
+    output: &Output,
+    sent: &mut Vec<Envelope>,
+    waits: &mut WaitingSets,
+) -> Result<(), OutOfMemory>
+    ensures sent { (rest : List Output) → OnOk result (sent.new.items ++ sent_by from rest
+        ≡ sent.old.items ++ sent_by from (output.now ∷ rest)) }
+    ensures behind { OnOk result ((more : List Envelope) × (sent.new.items ≡ sent.old.items ++ more)) }
+    ensures nodes { waits.new.nodes ≡ waits.old.nodes }
+    ensures waits { OnOk result ((a b : NodeId) → a.0 < waits.old.nodes → b.0 < waits.old.nodes → (n : ℕ)
+        → pair_has waits.new a b n
+        ≡ (comes_between (length sent.old.items) sent.new.items a b n || pair_has waits.old a b n)) }
+{
+    let Output::Message { to, message } = output else {
+        return Ok(());
+    };
+    let message = message.copy(alloc)?;
+    send(
+        sent,
+        waits,
+        Envelope {
+            from,
+            to: *to,
+            message,
+        },
+    )?;
     Ok(())
 }
 
@@ -63,25 +99,16 @@ pub fn collect(
     from: NodeId,
     outputs: &[Output],
     sent: &mut Vec<Envelope>,
-    waits: &mut BTreeSet<u64>,
+    waits: &mut WaitingSets,
 ) -> Result<(), OutOfMemory>
     ensures sent { OnOk result (sent.new.items ≡ sent.old.items ++ sent_by from outputs.now) }
-    ensures waits { OnOk result ((n : ℕ) → contains nat_cmp waits.new n
-        ≡ (is_new (length sent.old.items) (length sent.new.items) n || contains nat_cmp waits.old n)) }
+    ensures nodes { waits.new.nodes ≡ waits.old.nodes }
+    ensures waits { OnOk result ((a b : NodeId) → a.0 < waits.old.nodes → b.0 < waits.old.nodes → (n : ℕ)
+        → pair_has waits.new a b n
+        ≡ (comes_between (length sent.old.items) sent.new.items a b n || pair_has waits.old a b n)) }
 {
     for output in outputs {
-        if let Output::Message { to, message } = output {
-            let message = message.copy(alloc)?;
-            send(
-                sent,
-                waits,
-                Envelope {
-                    from,
-                    to: *to,
-                    message,
-                },
-            )?;
-        }
+        put_output(alloc, from, output, sent, waits)?;
     }
     Ok(())
 }

@@ -1,4 +1,5 @@
-//! What holds of every run.
+//! What holds of runs. "Such a run" is one of requests, deliveries and operations that are given up alone: in it no node
+//! ticks, goes down or comes up.
 ghost use Rattle.std.specs.Prelude.{◌≡◌, ◌≤◌, ◌<◌, ◌&&◌, ℕ, List, Some, None, IsTrue, true, false, is_some};
 ghost use Rattle.std.specs.List.{list_any};
 ghost use Rattle.contract_types.specs.Setup.{SetupState, IsSetup};
@@ -11,6 +12,7 @@ ghost use Rattle.store_api.specs.Versions.{version_of};
 ghost use Rattle.node_core.specs.declared.journal.Entry.{Entry};
 ghost use Rattle.node_core.specs.Step.{is_led, serves};
 ghost use Rattle.world_core.specs.declared.envelope.Envelope.{Envelope};
+ghost use Rattle.world_core.specs.Quiet.{are_quiet};
 ghost use Rattle.world_core.specs.Run.{IsRun, is_requested, message_at, state};
 ghost use Rattle.world_core.specs.Story.{IsRegisterStory, story, path, answer, is_answered};
 ghost use Rattle.world_core.specs.Served.{IsNotServed};
@@ -43,42 +45,43 @@ pub fn answers_of_runs()
 /// In every run, "no majority" is answered only where the operation was given up while it was pending, with the counts
 /// that it then had, and these are no majorities.
 pub fn give_ups_of_runs()
-    ensures given_up { (setup : SetupState) (past : List Entry) → IsRun setup past
+    ensures given_up { (setup : SetupState) → IsSetup setup → (past : List Entry) → IsRun setup past
         → (op : OpId) (counts : Counts) → answer past op ≡ Some (NoMajority counts) → IsGivenUp setup past op counts }
-    ensures short { (setup : SetupState) (past : List Entry) → IsRun setup past
+    ensures short { (setup : SetupState) → IsSetup setup → (past : List Entry) → IsRun setup past
         → (op : OpId) (counts : Counts) → answer past op ≡ Some (NoMajority counts) → are_majorities counts ≡ false }
 {}
 
 /// In every run, an operation is answered at most once.
 pub fn single_answers_of_runs()
-    ensures { (setup : SetupState) (past : List Entry) → IsRun setup past → (op : OpId) → answers_to past op ≤ 1 }
+    ensures { (setup : SetupState) → IsSetup setup → (past : List Entry) → IsRun setup past
+        → (op : OpId) → answers_to past op ≤ 1 }
 {}
 
-/// In every run, a node serves exactly the keys of the shards that have it as their primary.
+/// In every run of requests, deliveries and operations that are given up alone, a node serves exactly the keys of the shards that have it as their primary.
 pub fn serving_of_runs()
-    ensures { (setup : SetupState) → IsSetup setup → (past : List Entry) → IsRun setup past
+    ensures { (setup : SetupState) → IsSetup setup → (past : List Entry) → IsRun setup past → are_quiet past ≡ true
         → (n : ℕ) (key : List ℕ) → serves (state setup n past) key ≡ list_any (λ s. is_led n s && has_key s.region setup.hashes key) setup.shards }
 {}
 
-/// In every run, each message goes from a node of the table to a node of the table.
+/// In every such run, each message goes from a node of the table to a node of the table.
 pub fn messages_of_runs()
-    ensures from { (setup : SetupState) → IsSetup setup → (past : List Entry) → IsRun setup past
+    ensures from { (setup : SetupState) → IsSetup setup → (past : List Entry) → IsRun setup past → are_quiet past ≡ true
         → (number : ℕ) (message : Envelope) → message_at past number ≡ Some message → message.from.0 < setup.nodes }
-    ensures to { (setup : SetupState) → IsSetup setup → (past : List Entry) → IsRun setup past
+    ensures to { (setup : SetupState) → IsSetup setup → (past : List Entry) → IsRun setup past → are_quiet past ≡ true
         → (number : ℕ) (message : Envelope) → message_at past number ≡ Some message → message.to.0 < setup.nodes }
 {}
 
-/// In every run, each key has a version at each node, and its row there is what the operations on it left that lie on
+/// In every such run, each key has a version at each node, and its row there is what the operations on it left that lie on
 /// the path of that version: a put, a deletion and a compare-and-set that swapped leave their timestamp as the row's
 /// recency, a read and one that did not swap change nothing, and a deleted key keeps a row without a value. At the
 /// node that serves a key these are all operations on the path of the key's branch.
 pub fn rows_of_runs()
-    ensures versions { (setup : SetupState) → IsSetup setup → (past : List Entry) → IsRun setup past
+    ensures versions { (setup : SetupState) → IsSetup setup → (past : List Entry) → IsRun setup past → are_quiet past ≡ true
         → (n : ℕ) (key : List ℕ) → is_some (version_of (state setup n past).versions key) ≡ true }
-    ensures rows { (setup : SetupState) → IsSetup setup → (past : List Entry) → IsRun setup past
+    ensures rows { (setup : SetupState) → IsSetup setup → (past : List Entry) → IsRun setup past → are_quiet past ≡ true
         → (n : ℕ) (key : List ℕ) (version : Version) → version_of (state setup n past).versions key ≡ Some version
         → row_of (state setup n past).rows key ≡ path_row past key version }
-    ensures served { (setup : SetupState) → IsSetup setup → (past : List Entry) → IsRun setup past
+    ensures served { (setup : SetupState) → IsSetup setup → (past : List Entry) → IsRun setup past → are_quiet past ≡ true
         → (n : ℕ) (key : List ℕ) → serves (state setup n past) key ≡ true
         → row_of (state setup n past).rows key ≡ row_after None (path setup past key) }
 {}

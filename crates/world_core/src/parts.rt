@@ -1,18 +1,20 @@
 //! What a world keeps beside its journal, and how an entry changes it.
-ghost use Rattle.std.specs.Prelude.{◌≡◌, ℕ, ◌==◌, ◌<◌, ◌↔◌, ◌⊎◌, ◌||◌, ◌&&◌, not, Some, None, false, true, ◌∷◌, OnOk, OnErr, IfOk, IfErr, IfSome, IsErrOf, IsTrue, List, map, length, nat_lt, slice_set, slice_index_or};
-ghost use Rattle.std.specs.Ordering.{nat_cmp};
+ghost use Rattle.std.specs.Prelude.{◌≡◌, is_some, ℕ, ◌==◌, ◌<◌, ◌↔◌, ◌⊎◌, ◌||◌, ◌&&◌, not, Some, None, false, true, ◌∷◌, OnOk, OnErr, IfOk, IfErr, IfSome, IsErrOf, IsTrue, List, map, length, nat_lt, slice_set, slice_index_or};
 ghost use Rattle.std.specs.BTreeSet.{contains};
+ghost use Rattle.region_map.specs.declared.id.NodeId.{NodeId};
 ghost use Rattle.contract_types.specs.Setup.{SetupState, nodes_below};
 ghost use Rattle.node_core.specs.declared.journal.Entry.{Entry};
 ghost use Rattle.node_core.specs.Step.{NodeState, begin_node, node_step, ends_numbers};
 ghost use Rattle.register_laws.specs.declared.operation.OpId.{OpId};
-ghost use Rattle.world_core.specs.Run.{sent, brought, requests, is_requested, entry_of};
-ghost use Rattle.world_core.specs.Waiting.{delivers};
-ghost use Rattle.world_core.specs.World.{op_cmp, AreRequested, IsLeastOf, IsInStep, entry_refusal, numbers_refusal, is_final};
+ghost use Rattle.world_core.specs.Run.{sent, numbered, brought, requests, is_requested, entry_of, suits};
+ghost use Rattle.world_core.specs.Waiting.{delivers, is_between};
+ghost use Rattle.world_core.specs.Pairs.{pair_has, is_up_among};
+ghost use Rattle.world_core.specs.World.{op_cmp, AreRequested, IsInStep, most_entries, states, names_nodes, message_refusal, op_refusal, entry_refusal, numbers_refusal, is_final};
 
 use crate::PushRefused;
 use crate::envelope::{Envelope, collect, find, open};
-use contract_types::Setup;
+use crate::waiting_sets::WaitingSets;
+use contract_types::{Setup, Which};
 use exec_types::{Input, Outputs};
 use memory::OutOfMemory;
 use node_core::{Brought, Entry, Journal, Node};
@@ -20,6 +22,9 @@ use region_map::{NodeId, StepRefused};
 use register_laws::OpId;
 use std::alloc::Global;
 use std::collections::BTreeSet;
+
+/// How many entries a journal holds at most.
+pub const MOST_ENTRIES: u64 = 20_000;
 
 /// The nodes of a table as it begins.
 pub(crate) fn begin_nodes(alloc: Global, setup: &Setup) -> Result<Vec<Option<Node>>, OutOfMemory>
@@ -47,8 +52,10 @@ fn step_node(
         → IfOk result (λ outs. outs ≡ (node_step s input.now brought).outs) }
     ensures nodes { (s : NodeState) → slice_index_or nodes.old.items node.0 None ≡ Some s
         → OnOk result (nodes.new.items ≡ slice_set nodes.old.items node.0 (Some (node_step s input.now brought).node)) }
-    ensures numbers { (s : NodeState) → slice_index_or nodes.old.items node.0 None ≡ Some s
-        → (IsErrOf result StepRefused.NumbersEnd ↔ IsTrue (ends_numbers s input.now brought)) }
+    ensures ends { (s : NodeState) → slice_index_or nodes.old.items node.0 None ≡ Some s
+        → IsErrOf result StepRefused.NumbersEnd → IsTrue (ends_numbers s input.now brought) }
+    ensures goes { (s : NodeState) → slice_index_or nodes.old.items node.0 None ≡ Some s
+        → OnOk result (ends_numbers s input.now brought ≡ false) }
 {
     let slot = &mut nodes[node.0 as usize];
     match slot.take() {
@@ -72,6 +79,8 @@ fn bring(
     match input {
         Input::Request { .. } => Ok(None),
         Input::GiveUp { .. } => Ok(None),
+        Input::See { .. } => Ok(None),
+        Input::Tick => Ok(None),
         Input::Deliver { message } => match find(messages, *message) {
             None => Ok(None),
             Some(envelope) => {
@@ -79,6 +88,8 @@ fn bring(
                 Ok(Some(brought))
             }
         },
+        Input::Crash => Ok(None),
+        Input::Restart => Ok(None),
     }
 }
 
@@ -93,64 +104,147 @@ fn note(requested: &mut BTreeSet<OpId>, input: &Input) -> Result<(), OutOfMemory
     Ok(())
 }
 
-/// The least message that waits.
-pub(crate) fn least(waits: &BTreeSet<u64>) -> Option<u64>
-    ensures { IsLeastOf waits.now result }
-{
-    waits.first().copied()
-}
-
 /// A message waits no longer.
-pub(crate) fn stop_waiting(waits: &mut BTreeSet<u64>, message: u64)
-    ensures { (n : ℕ) → contains nat_cmp waits.new n ≡ (not (message == n) && contains nat_cmp waits.old n) }
+pub(crate) fn stop_waiting(waits: &mut WaitingSets, messages: &[Envelope], message: u64)
+    ensures nodes { waits.new.nodes ≡ waits.old.nodes }
+    ensures stopped { (a b : NodeId) → a.0 < waits.old.nodes → b.0 < waits.old.nodes → (n : ℕ)
+        → pair_has waits.new a b n
+        ≡ (not ((message == n) && is_between a b (numbered messages.now n)) && pair_has waits.old a b n) }
 {
-    waits.remove(&message);
+    if let Some(envelope) = find(messages, message) {
+        waits.remove(envelope, message);
+    }
 }
 
 /// A message that is delivered waits no longer.
-fn arrive(waits: &mut BTreeSet<u64>, input: &Input)
-    ensures { (n : ℕ) → contains nat_cmp waits.new n ≡ (not (delivers input.now n) && contains nat_cmp waits.old n) }
+fn arrive(waits: &mut WaitingSets, messages: &[Envelope], input: &Input)
+    ensures nodes { waits.new.nodes ≡ waits.old.nodes }
+    ensures arrived { (a b : NodeId) → a.0 < waits.old.nodes → b.0 < waits.old.nodes → (n : ℕ)
+        → pair_has waits.new a b n
+        ≡ (not (delivers input.now n && is_between a b (numbered messages.now n)) && pair_has waits.old a b n) }
 {
     if let Input::Deliver { message } = input {
-        stop_waiting(waits, *message);
+        stop_waiting(waits, messages, *message);
     }
+}
+
+/// Whether the nodes of an event are nodes of the table.
+fn names_nodes(setup: &Setup, node: NodeId, input: &Input) -> bool
+    ensures { result ≡ names_nodes setup.now node input.now }
+{
+    if node.0 >= setup.nodes() {
+        return false;
+    }
+    match input {
+        Input::See { other, .. } => other.0 < setup.nodes(),
+        Input::Request { .. } => true,
+        Input::GiveUp { .. } => true,
+        Input::Tick => true,
+        Input::Deliver { .. } => true,
+        Input::Crash => true,
+        Input::Restart => true,
+    }
+}
+
+/// The refusal of a message that was not sent, or is for another node.
+fn message_refusal(messages: &[Envelope], node: NodeId, input: &Input) -> Option<PushRefused>
+    ensures value { (past : List Entry) → messages.now ≡ sent past → result ≡ message_refusal past node input.now None }
+    ensures goes_on { IfSome result (λ why. is_final why ≡ false) }
+{
+    let Input::Deliver { message } = input else {
+        return None;
+    };
+    match find(messages, *message) {
+        None => Some(PushRefused::NoSuchMessage),
+        Some(envelope) => {
+            if envelope.to == node {
+                None
+            } else {
+                Some(PushRefused::NotYours)
+            }
+        }
+    }
+}
+
+/// Whether a node takes an input: one that is down takes a restart alone, and only such a node takes it.
+fn suits(up: bool, input: &Input) -> bool
+    ensures { result ≡ suits up input.now }
+{
+    match input {
+        Input::Restart => !up,
+        Input::Request { .. } => up,
+        Input::GiveUp { .. } => up,
+        Input::See { .. } => up,
+        Input::Tick => up,
+        Input::Deliver { .. } => up,
+        Input::Crash => up,
+    }
+}
+
+/// Whether a node is up; one that is not there is not.
+pub(crate) fn is_up(nodes: &[Option<Node>], node: NodeId) -> bool
+    ensures { result ≡ is_up_among nodes.now node.0 }
+{
+    match nodes.get(node.0 as usize) {
+        Some(Some(there)) => there.is_up(),
+        _ => false,
+    }
+}
+
+/// Whether an input requests an operation that was requested before.
+fn is_known(requested: &BTreeSet<OpId>, input: &Input) -> bool
+    ensures { (past : List Entry) → AreRequested requested.now past
+        → result ≡ is_some (op_refusal past input.now None) }
+{
+    match input {
+        Input::Request { op, .. } => requested.contains(op),
+        _ => false,
+    }
+}
+
+/// Whether a journal takes no more entries.
+fn is_full(journal: &Journal) -> bool
+    ensures { result ≡ not (nat_lt (length journal.now.past) most_entries) }
+{
+    journal.entries().len() as u64 >= MOST_ENTRIES
 }
 
 /// The first refusal of an event that needs no step of its node.
 pub(crate) fn refusal(
     setup: &Setup,
+    journal: &Journal,
+    nodes: &[Option<Node>],
     messages: &[Envelope],
     requested: &BTreeSet<OpId>,
     node: NodeId,
     input: &Input,
 ) -> Option<PushRefused>
-    ensures value { (past : List Entry) → messages.now ≡ sent past → AreRequested requested.now past
-        → result ≡ entry_refusal setup.now past node input.now }
+    ensures value { nodes.now ≡ states setup.now journal.now.past → messages.now ≡ sent journal.now.past
+        → AreRequested requested.now journal.now.past
+        → result ≡ entry_refusal setup.now journal.now.past node input.now }
     ensures goes_on { IfSome result (λ why. is_final why ≡ false) }
 {
-    if node.0 >= setup.nodes() {
+    if !names_nodes(setup, node, input) {
         return Some(PushRefused::NoSuchNode);
     }
-    match input {
-        Input::Request { op, .. } => {
-            if requested.contains(op) {
-                Some(PushRefused::OpKnown)
-            } else {
-                None
-            }
-        }
-        Input::GiveUp { .. } => None,
-        Input::Deliver { message } => match find(messages, *message) {
-            None => Some(PushRefused::NoSuchMessage),
-            Some(envelope) => {
-                if envelope.to == node {
-                    None
-                } else {
-                    Some(PushRefused::NotYours)
-                }
-            }
-        },
+    if let Some(why) = message_refusal(messages, node, input) {
+        return Some(why);
     }
+    let up = is_up(nodes, node);
+    if !suits(up, input) {
+        return Some(if up {
+            PushRefused::Up
+        } else {
+            PushRefused::Down
+        });
+    }
+    if is_known(requested, input) {
+        return Some(PushRefused::OpKnown);
+    }
+    if is_full(journal) {
+        return Some(PushRefused::JournalFull(Which::JournalEntries));
+    }
+    None
 }
 
 /// Takes an event that nothing but its step may refuse: its node steps, and what that gives is kept. At a refusal
@@ -159,7 +253,7 @@ pub(crate) fn take(
     journal: &mut Journal,
     nodes: &mut Vec<Option<Node>>,
     messages: &mut Vec<Envelope>,
-    waits: &mut BTreeSet<u64>,
+    waits: &mut WaitingSets,
     requested: &mut BTreeSet<OpId>,
     alloc: Global,
     node: NodeId,
@@ -187,8 +281,8 @@ pub(crate) fn take(
 {
     let brought = bring(alloc, messages, &input)?;
     let outputs = step_node(nodes, alloc, node, &input, brought)?;
+    arrive(waits, messages, &input);
     collect(alloc, node, outputs.as_slice(), messages, waits)?;
-    arrive(waits, &input);
     note(requested, &input)?;
     journal.push(Entry {
         node,

@@ -16,6 +16,12 @@ pub enum PushRefused {
     /// The message is for another node.
     #[error("the message is for another node")]
     NotYours,
+    /// The node is down, and takes a restart alone.
+    #[error("the node is down")]
+    Down,
+    /// The node is up, and takes no restart.
+    #[error("the node is up")]
+    Up,
     /// An operation of that number was requested before.
     #[error("the operation is known")]
     OpKnown,

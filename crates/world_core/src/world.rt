@@ -1,19 +1,22 @@
 //! All nodes of a table, and the network between them.
-ghost use Rattle.std.specs.Prelude.{◌≡◌, ◌∷◌, ◌++◌, ◌⊎◌, ◌↔◌, [], Some, None, OnOk, OnErr, IfOk, IfErr, IsErrOf, length};
+ghost use Rattle.std.specs.Prelude.{◌≡◌, ◌∷◌, ◌++◌, ◌⊎◌, ◌↔◌, [], Some, None, OnOk, OnErr, IfOk, IfErr, IsErrOf, IsTrue, ◌<◌, nat_lt, length};
+ghost use Rattle.std.specs.List.{list_all};
 ghost use Rattle.contract_types.specs.Setup.{IsSetup};
 ghost use Rattle.node_core.specs.declared.journal.Entry.{Entry};
 ghost use Rattle.world_core.specs.Run.{IsRun, message_at, entry_of};
-ghost use Rattle.world_core.specs.Waiting.{waiting};
-ghost use Rattle.world_core.specs.World.{push_refusal, after_refusal, receiver_of};
+ghost use Rattle.world_core.specs.Waiting.{waiting, waiting_between};
+ghost use Rattle.world_core.specs.World.{push_refusal, after_refusal, receiver_of, is_up};
 
 use crate::envelope::{Envelope, find};
-use crate::parts::{begin_nodes, least, refusal, stop_waiting, take};
+use crate::flowing::first_in;
+use crate::parts::{begin_nodes, is_up, refusal, stop_waiting, take};
+use crate::waiting_sets::WaitingSets;
 use crate::{LoseRefused, PushRefused};
 use contract_types::Setup;
 use exec_types::Input;
 use memory::OutOfMemory;
 use node_core::{Journal, Node};
-use region_map::NodeId;
+use region_map::{NodeId, NodeSet};
 use register_laws::OpId;
 use std::alloc::Global;
 use std::collections::BTreeSet;
@@ -29,7 +32,7 @@ pub struct World {
     /// The messages that were marked lost, in the order in which they were.
     lost: Vec<u64>,
     /// The messages that were neither delivered nor lost.
-    waits: BTreeSet<u64>,
+    waits: WaitingSets,
     requested: BTreeSet<OpId>,
     ended: Option<PushRefused>,
 }
@@ -50,6 +53,7 @@ impl World {
         ensures { IfOk result (λ world. world ≡ record { setup = setup; past = []; lost = []; ended = None }) }
     {
         let nodes = begin_nodes(alloc, &setup)?;
+        let waits = WaitingSets::begin(alloc, setup.nodes())?;
         let journal = Journal::begin(alloc, setup.copy(alloc)?);
         Ok(World {
             setup,
@@ -57,7 +61,7 @@ impl World {
             nodes,
             sent: Vec::new(alloc),
             lost: Vec::new(alloc),
-            waits: BTreeSet::new(alloc),
+            waits,
             requested: BTreeSet::new(alloc),
             ended: None,
         })
@@ -76,7 +80,15 @@ impl World {
         if let Some(why) = self.ended {
             return Err(why);
         }
-        if let Some(why) = refusal(&self.setup, &self.sent, &self.requested, node, &input) {
+        if let Some(why) = refusal(
+            &self.setup,
+            &self.journal,
+            &self.nodes,
+            &self.sent,
+            &self.requested,
+            node,
+            &input,
+        ) {
             return Err(why);
         }
         let place = self.journal.entries().len() as u64;
@@ -106,12 +118,14 @@ impl World {
         }
     }
 
-    /// The least message that waits: it was sent, and was neither delivered nor lost. Of a world that ended nothing is
-    /// said.
-    pub fn waiting(&self) -> Option<u64>
-        ensures { self.now.ended ≡ None → result ≡ waiting self.now.past self.now.lost }
+    /// The least message that waits between some nodes and whose receiver is up: it was sent, and was neither delivered
+    /// nor lost. Of a world that ended nothing is said.
+    pub fn waiting(&self, only: &NodeSet) -> Option<u64>
+        requires { IsTrue (list_all (λ n. nat_lt n self.now.setup.nodes) only.now) }
+        ensures { self.now.ended ≡ None
+            → result ≡ waiting self.now.setup self.now.past self.now.lost only.now }
     {
-        least(&self.waits)
+        first_in(&self.waits, &self.nodes, only)
     }
 
     /// Marks a message lost: it waits no longer, and may still be delivered. Of a world that ended nothing is said.
@@ -125,8 +139,28 @@ impl World {
             return Err(LoseRefused::NoSuchMessage);
         };
         self.lost.push(message)?;
-        stop_waiting(&mut self.waits, message);
+        stop_waiting(&mut self.waits, &self.sent, message);
         Ok(())
+    }
+
+    /// Marks the messages that wait from one node to another lost, in the order in which they were sent.
+    pub fn lose_between(&mut self, from: NodeId, to: NodeId) -> Result<(), OutOfMemory>
+        requires sender { from.0 < self.old.setup.nodes }
+        requires receiver { to.0 < self.old.setup.nodes }
+        ensures lost { self.old.ended ≡ None
+            → OnOk result (self.new ≡ record self.old { lost = self.old.lost ++ waiting_between self.old.past self.old.lost from to }) }
+        ensures rest { self.new ≡ record self.old { lost = self.new.lost } }
+        ensures err { OnErr result (self.new ≡ self.old) }
+    {
+        self.waits.lose_all(from, to, &mut self.lost)?;
+        Ok(())
+    }
+
+    /// Whether a node is up; one that is not there is not. Of a world that ended nothing is said.
+    pub fn is_up(&self, node: NodeId) -> bool
+        ensures { self.now.ended ≡ None → result ≡ is_up self.now node }
+    {
+        node.0 < self.setup.nodes() && is_up(&self.nodes, node)
     }
 
     /// What the table began with.

@@ -1,4 +1,4 @@
-use Rattle.world_core.proofs.Refusals.{answered_not_served, not_served_answered}
+use Rattle.world_core.proofs.KeyedLaws.{answered_not_served, not_served_answered}
 use Rattle.world_core.proofs.laws.refusals_of_runs.Goals as goal
 
 pub returns-clause-only : goal.returns-clause-only

@@ -1,11 +1,13 @@
 -- What a step gives, as the journal says it: the message that is brought, and the state of the node.
-use Rattle.std.proofs.Common.{◌≡◌, ℕ, not, ◌&&◌, List, ◌∷◌, ◌++◌, Some, None, get_or, ap, ◌∙◌}
+use Rattle.std.proofs.Common.{◌≡◌, ℕ, not, ◌<◌, ◌&&◌, ◌||◌, length, sym, subst, List, ◌∷◌, ◌++◌, Some, None, get_or, ap, ◌∙◌}
 use Rattle.std.proofs.lemmas.Result.{err_from_is_err_and}
 use Rattle.contract_types.specs.Setup.{SetupState}
 use Rattle.exec_types.specs.declared.output.Output.{Output}
 use Rattle.node_core.specs.Journal.{JournalState}
-use Rattle.world_core.specs.Waiting.{delivers}
-use Rattle.world_core.specs.Run.{brought, state, outs_of, sent_by}
+use Rattle.world_core.specs.declared.envelope.Envelope.{Envelope}
+use Rattle.world_core.specs.Waiting.{delivers, is_between}
+use Rattle.world_core.specs.Pairs.{pair_has, comes_between}
+use Rattle.world_core.specs.Run.{numbered, brought, state, outs_of, sent_by}
 use Rattle.world_core.proofs.States.{state_stored, numbers_taken, numbers_refused, outs_given, node_given, IsInStep-next}
 use Rattle.world_core.proofs.parts.take.Goals as goal
 
@@ -14,7 +16,7 @@ returns-in_err-outputs-clause-refused c = λ (setup : SetupState) (lost : List �
     let past = c.args.journal.now.past in
     let given : c.in_ok-brought.brought ≡ brought past c.args.input = c.in_ok-brought.ensures past (c.deref.ensures.value ∙ h.sent_are) in
     let stored : get_or c.args.nodes.now.items c.args.node.0 None ≡ Some (state setup c.args.node.0 past) = state_stored setup past lost _ _ _ _ c.args.node.0 h c.requires in
-    let r = numbers_refused c.in_err-outputs.field-0.0 setup past c.args.node c.args.input _ given (c.in_err-outputs.ensures.numbers (state setup c.args.node.0 past) stored) in
+    let r = numbers_refused c.in_err-outputs.field-0.0 setup past c.args.node c.args.input _ given (c.in_err-outputs.ensures.ends (state setup c.args.node.0 past) stored) in
     let p = err_from_is_err_and c.from_residual-in_err-outputs.result c.from_residual-in_err-outputs.ensures.1 in
     rw (p.1, p.2) r
 
@@ -38,7 +40,10 @@ returns-clause-in_step c = λ (setup : SetupState) (lost : List ℕ) h goes.
     IsInStep-next setup past lost c.args.node c.args.input _ _ _ _ _ _ _ _ h c.requires goes
     (node_given setup past c.args.node c.args.input _ _ _ given (c.in_ok-outputs.ensures.nodes (state setup c.args.node.0 past) stored))
     (c.in_ok-collect.ensures.sent ∙ ap (λ (os : List Output). c.args.messages.now.items ++ sent_by c.args.node os) (c.as_slice.ensures ∙ outs))
-    (λ k. c.arrive.ensures k ∙ ap (λ b. not (delivers c.args.input k) && b) (c.in_ok-collect.ensures.waits k))
+    (c.in_ok-collect.ensures.nodes ∙ c.arrive.ensures.nodes)
+    (λ a b ha hb k. c.in_ok-collect.ensures.waits a b (subst (λ m. a.0 < m) (sym c.arrive.ensures.nodes) ha) (subst (λ m. b.0 < m) (sym c.arrive.ensures.nodes) hb) k
+    ∙ ap (λ v. comes_between (length c.args.messages.now.items) c.collect.new.sent.items a b k || v)
+    (c.arrive.ensures.arrived a b ha hb k ∙ ap (λ (ms : List Envelope). not (delivers c.args.input k && is_between a b (numbered ms k)) && pair_has c.args.waits.now a b k) c.deref-2.ensures.value))
     (c.in_ok-note.ensures past h.ops_are)
 
 pub returns-clause-taken : goal.returns-clause-taken
@@ -46,4 +51,4 @@ returns-clause-taken c = λ (setup : SetupState) (lost : List ℕ) h.
     let past = c.args.journal.now.past in
     let given : c.in_ok-brought.brought ≡ brought past c.args.input = c.in_ok-brought.ensures past (c.deref.ensures.value ∙ h.sent_are) in
     let stored : get_or c.args.nodes.now.items c.args.node.0 None ≡ Some (state setup c.args.node.0 past) = state_stored setup past lost _ _ _ _ c.args.node.0 h c.requires in
-    numbers_taken c.in_ok-outputs.outputs setup past c.args.node c.args.input _ given (c.in_ok-outputs.ensures.numbers (state setup c.args.node.0 past) stored)
+    numbers_taken setup past c.args.node c.args.input _ given (c.in_ok-outputs.ensures.goes (state setup c.args.node.0 past) stored)

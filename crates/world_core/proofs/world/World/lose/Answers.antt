@@ -1,8 +1,10 @@
 -- A message that was sent and is marked lost waits no longer.
-use Rattle.std.proofs.Common.{◌≡◌, true, is_some, sym, ap, ◌∙◌}
+use Rattle.std.proofs.Common.{◌≡◌, ◌==◌, ◌&&◌, not, List, true, is_some, sym, ap, ◌∙◌}
 use Rattle.std.specs.Prelude.{Option}
 use Rattle.world_core.specs.declared.envelope.Envelope.{Envelope}
 use Rattle.world_core.specs.Run.{numbered}
+use Rattle.world_core.specs.Waiting.{is_between}
+use Rattle.world_core.specs.Pairs.{pair_has}
 use Rattle.world_core.proofs.States.{IsInStep-lost}
 use Rattle.world_core.proofs.world.World.lose.Goals as goal
 
@@ -14,5 +16,7 @@ invariant_of-self-2 c =
     record {
       begun = c.self.invariant.begun;
       run = c.self.invariant.run;
-      in_step = λ e. IsInStep-lost w.setup w.journal.past w.lost.items _ c.args.message w.nodes.items w.sent.items w.waits _ w.requested (c.self.invariant.in_step e) c.in_ok-push.ensures.items there c.stop_waiting.ensures;
+      in_step = λ e. IsInStep-lost w.setup w.journal.past w.lost.items _ c.args.message w.nodes.items w.sent.items w.waits _ w.requested (c.self.invariant.in_step e) c.in_ok-push.ensures.items there c.stop_waiting.ensures.nodes
+          (λ a b ha hb k. c.stop_waiting.ensures.stopped a b ha hb k
+          ∙ ap (λ (ms : List Envelope). not ((c.args.message == k) && is_between a b (numbered ms k)) && pair_has w.waits a b k) c.deref-2.ensures.value);
     }

@@ -12,7 +12,7 @@ take-requires c =
     let w = c.self.inside in
     let h : IsInStep w.setup w.journal.past w.lost.items w.nodes.items w.sent.items w.waits w.requested = c.self.invariant.in_step c.in_default.is in
     let e : entry_refusal w.setup w.journal.past c.args.node c.args.input ≡ None =
-    sym (c.in_default-refusal.ensures.value w.journal.past (c.deref.ensures.value ∙ h.sent_are) h.ops_are) in
+    sym (c.in_default-refusal.ensures.value (c.deref.ensures.value ∙ h.states_are) (c.deref-2.ensures.value ∙ h.sent_are) h.ops_are) in
     let inside : c.args.node.0 < w.setup.nodes = ltb-true _ _ (within_table w.setup w.journal.past c.args.node c.args.input e) in
     omega (arith, ap length h.states_are ∙ length_states w.setup w.journal.past)
 
@@ -21,7 +21,7 @@ returns-in-Some-refusal-clause-refused c =
     let w = c.self.inside in
     let h : IsInStep w.setup w.journal.past w.lost.items w.nodes.items w.sent.items w.waits w.requested = c.self.invariant.in_step c.in_default.is in
     let e : entry_refusal w.setup w.journal.past c.args.node c.args.input ≡ Some c.in-Some-refusal.why =
-    sym (c.in-Some-refusal.ensures.value w.journal.past (c.deref.ensures.value ∙ h.sent_are) h.ops_are) in
+    sym (c.in-Some-refusal.ensures.value (c.deref.ensures.value ∙ h.states_are) (c.deref-2.ensures.value ∙ h.sent_are) h.ops_are) in
     inr (push_refused c.args.self.now w.setup w.journal.past w.lost.items w.ended c.args.node c.args.input c.in-Some-refusal.why c.self.view_is c.in_default.is e)
 
 pub invariant_of-self-in_default-take : goal.invariant_of-self-in_default-take
@@ -29,7 +29,7 @@ invariant_of-self-in_default-take c =
     let w = c.self.inside in
     let h : IsInStep w.setup w.journal.past w.lost.items w.nodes.items w.sent.items w.waits w.requested = c.self.invariant.in_step c.in_default.is in
     let e : entry_refusal w.setup w.journal.past c.args.node c.args.input ≡ None =
-    sym (c.in_default-refusal.ensures.value w.journal.past (c.deref.ensures.value ∙ h.sent_are) h.ops_are) in
+    sym (c.in_default-refusal.ensures.value (c.deref.ensures.value ∙ h.states_are) (c.deref-2.ensures.value ∙ h.sent_are) h.ops_are) in
     let n : numbers_refusal w.setup w.journal.past c.args.node c.args.input ≡ None = c.in_default-take.ensures.taken w.setup w.lost.items h in
     let entry : c.take.new.journal ≡ record w.journal { past = entry_of w.setup w.journal.past c.args.node c.args.input ∷ w.journal.past } =
     c.in_default-take.ensures.entry w.setup w.lost.items h in

@@ -1,0 +1,23 @@
+-- In every run each key's story is a register story: it is the list of all operations on the key.
+use Rattle.std.proofs.Common.{◌≡◌, ℕ, List, [], ◌++◌, map, filter, None, refl, sym, ap, subst}
+use Rattle.contract_types.specs.Setup.{SetupState, IsSetup}
+use Rattle.register_laws.specs.declared.operation.OpId.{OpId}
+use Rattle.register_laws.specs.declared.operation.Op.{Op}
+use Rattle.register_laws.specs.declared.operation.Told.{Told}
+use Rattle.register_laws.specs.Lists.{told_from}
+use Rattle.node_core.specs.declared.journal.Entry.{Entry}
+use Rattle.world_core.specs.Run.{IsRun}
+use Rattle.world_core.specs.Story.{Point, IsRegisterStory, call_of, is_shown_point, story}
+use Rattle.world_core.proofs.AskedRuns.{earlier_run}
+use Rattle.world_core.proofs.Keyed.{keyed_story}
+use Rattle.world_core.proofs.KeyedLaws.{keyed_register_story}
+use Rattle.world_core.proofs.OnPath.{all_on_path}
+
+story_is : (setup : SetupState) → IsSetup setup → (past : List Entry) → IsRun setup past → (key : List ℕ) → story setup past key ≡ keyed_story past key
+story_is setup ok past h key = ap (λ (ps : List Point). told_from None (map call_of (filter (is_shown_point past) ps))) (all_on_path setup ok past h key)
+
+pub run_stories : (setup : SetupState) → IsSetup setup → (past : List Entry) → IsRun setup past → (key : List ℕ) → IsRegisterStory setup past key (story setup past key)
+run_stories setup ok past h key =
+    subst (IsRegisterStory setup past key) (sym (story_is setup ok past h key))
+    (keyed_register_story setup ok past h key
+    (λ later earlier is. story_is setup ok earlier (earlier_run setup past earlier h (record { later = later; is = is })) key))
