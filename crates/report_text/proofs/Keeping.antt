@@ -1,13 +1,15 @@
 -- Laws of answers that are kept one after another.
-use Rattle.std.proofs.Common.{◌≡◌, Bool, true, false, cond, List, [], ◌∷◌, Option, Some, None, refl, ap, sym, ◌∙◌}
+use Rattle.std.proofs.Common.{◌≡◌, ◌==◌, ◌||◌, ℕ, ◌+◌, ◌<◌, Bool, true, false, cond, List, [], ◌∷◌, length, get_or, drop, Option, Some, None, refl, ap, sym, ◌∙◌}
+use Rattle.std.proofs.lemmas.List.{at_drop_more}
 use Rattle.register_laws.specs.declared.operation.OpId.{OpId}
 use Rattle.register_laws.specs.Lists.{same_op}
 use Rattle.exec_types.specs.declared.outcome.Outcome.{Outcome}
 use Rattle.exec_types.specs.declared.output.Output.{Output}
-use Rattle.exec_types.specs.declared.output.Output.TheVariants.{Message, Dispatched, Answer}
+use Rattle.exec_types.specs.declared.output.Output.TheVariants.{Message, Dispatched, Viewed, Answer}
 use Rattle.world_core.specs.Story.{answer_in, or_else}
 use Rattle.report_text.specs.declared.answered.Answered.{Answered}
-use Rattle.report_text.specs.Known.{all_answered, or_answered}
+use Rattle.report_text.specs.Known.{all_answered, or_answered, op_of}
+use Rattle.report_text.specs.Report.{is_down}
 
 pub all_answered-or_else : (a b : Option Outcome) → all_answered (or_else a b) ≡ or_answered (all_answered a) (all_answered b)
 all_answered-or_else None b = refl
@@ -24,6 +26,7 @@ or_else-cond false o later = refl
 pub answer_in-cons : (x : Output) (outs : List Output) (op : OpId) → answer_in (x ∷ outs) op ≡ or_else (answer_in (x ∷ []) op) (answer_in outs op)
 answer_in-cons (Message to message) outs op = refl
 answer_in-cons (Dispatched q key branch timestamp) outs op = refl
+answer_in-cons (Viewed first results) outs op = refl
 answer_in-cons (Answer q outcome) outs op = or_else-cond (same_op q op) outcome (answer_in outs op)
 
 -- one output more
@@ -42,3 +45,16 @@ or_answered-none (Some a) = refl
 pub kept_as : (b : Bool) (o : Outcome) → all_answered (cond b (Some o) None) ≡ cond b (all_answered (Some o)) None
 kept_as true o = refl
 kept_as false o = refl
+
+or-moves : (here old rest : Bool) → ((here || old) || rest) ≡ (old || (here || rest))
+or-moves true true rest = refl
+or-moves true false rest = refl
+or-moves false old rest = refl
+
+-- one operation more that was asked of a node that was down
+pub down-more : (ops : List OpId) (i : ℕ) (x : OpId) (n : ℕ) (old new : Bool) → i < length ops → x ≡ get_or ops i x → new ≡ ((x.0 == n) || old)
+    → (new || is_down (drop (i + 1) ops) (op_of n)) ≡ (old || is_down (drop i ops) (op_of n))
+down-more ops i x n old new below read added =
+    ap (λ b. b || is_down (drop (i + 1) ops) (op_of n)) added
+    ∙ or-moves (x.0 == n) old (is_down (drop (i + 1) ops) (op_of n))
+    ∙ ap (λ b. old || b) (ap (λ (y : OpId). is_down (y ∷ drop (i + 1) ops) (op_of n)) read ∙ sym (at_drop_more (λ (qs : List OpId). is_down qs (op_of n)) ops i x below))

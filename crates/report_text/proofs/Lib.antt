@@ -1,5 +1,7 @@
+mod Branches
 mod Joined
 mod Keeping
 mod Lists
 mod Telling
 mod Utf8
+mod Viewing

@@ -7,37 +7,41 @@ use Rattle.std.specs.Cmp.Lexicographic.{slice_cmp, texts_ties}
 use Rattle.std.specs.FinMap.{slice_cmp-IsAntisymmetric, nat_cmp-IsAntisymmetric}
 use Rattle.std.specs.BTreeMap.{get, is_at}
 use Rattle.contract_types.specs.Setup.{SetupState}
+use Rattle.contract_types.specs.Tables.{Table}
+use Rattle.world_core.specs.Latest.{told_table}
 use Rattle.register_laws.specs.declared.operation.Op.{Op}
 use Rattle.register_laws.specs.Register.{State, state_after}
 use Rattle.register_laws.specs.Lists.{told_from}
 use Rattle.exec_types.specs.declared.output.Output.{Output}
-use Rattle.exec_types.specs.declared.output.Output.TheVariants.{Message, Dispatched, Answer}
+use Rattle.exec_types.specs.declared.output.Output.TheVariants.{Message, Dispatched, Viewed, Answer}
 use Rattle.node_core.specs.declared.journal.Entry.{Entry}
 use Rattle.world_core.specs.Story.{Point, points, points_in, points_of, same_key, is_on_path, is_shown_point, call_of, story}
 use Rattle.report_text.specs.Report.{told_text, story_line}
 use Rattle.report_text.specs.Stories.{Texts, text_at, told_op, point_text, points_text, text_or_none, line_with, line_by}
+use Rattle.report_text.proofs.Branches.{on_path-hashes}
 
-pub points_text-append : (setup : SetupState) (past : List Entry) (key : List ℕ) (ps qs : List Point) → points_text setup past key (ps ++ qs) ≡ points_text setup past key ps ++ points_text setup past key qs
-points_text-append setup past key [] qs = refl
-points_text-append setup past key (p ∷ ps) qs = ap (λ rest. point_text setup past key p ++ rest) (points_text-append setup past key ps qs) ∙ sym (append_assoc (point_text setup past key p) (points_text setup past key ps) (points_text setup past key qs))
+pub points_text-append : (t : Table) (past : List Entry) (key : List ℕ) (ps qs : List Point) → points_text t past key (ps ++ qs) ≡ points_text t past key ps ++ points_text t past key qs
+points_text-append t past key [] qs = refl
+points_text-append t past key (p ∷ ps) qs = ap (λ rest. point_text t past key p ++ rest) (points_text-append t past key ps qs) ∙ sym (append_assoc (point_text t past key p) (points_text t past key ps) (points_text t past key qs))
 
 pub points_in-cons : (what : Op) (x : Output) (outs : List Output) → points_in what (x ∷ outs) ≡ points_in what (x ∷ []) ++ points_in what outs
 points_in-cons what (Message to message) outs = refl
 points_in-cons what (Dispatched op key branch timestamp) outs = refl
+points_in-cons what (Viewed first results) outs = refl
 points_in-cons what (Answer op outcome) outs = refl
 
 -- one output more
-pub tell-more : (setup : SetupState) (past : List Entry) (key : List ℕ) (what : Op) (x : Output) (outs : List Output) (a b : List ℕ) → b ≡ a ++ points_text setup past key (points_in what (x ∷ [])) → b ++ points_text setup past key (points_in what outs) ≡ a ++ points_text setup past key (points_in what (x ∷ outs))
-tell-more setup past key what x outs a b told =
-    ap (λ front. front ++ points_text setup past key (points_in what outs)) told
-    ∙ append_assoc a (points_text setup past key (points_in what (x ∷ []))) (points_text setup past key (points_in what outs))
-    ∙ ap (λ back. a ++ back) (sym (points_text-append setup past key (points_in what (x ∷ [])) (points_in what outs)))
-    ∙ ap (λ (ps : List Point). a ++ points_text setup past key ps) (sym (points_in-cons what x outs))
+pub tell-more : (t : Table) (past : List Entry) (key : List ℕ) (what : Op) (x : Output) (outs : List Output) (a b : List ℕ) → b ≡ a ++ points_text t past key (points_in what (x ∷ [])) → b ++ points_text t past key (points_in what outs) ≡ a ++ points_text t past key (points_in what (x ∷ outs))
+tell-more t past key what x outs a b told =
+    ap (λ front. front ++ points_text t past key (points_in what outs)) told
+    ∙ append_assoc a (points_text t past key (points_in what (x ∷ []))) (points_text t past key (points_in what outs))
+    ∙ ap (λ back. a ++ back) (sym (points_text-append t past key (points_in what (x ∷ [])) (points_in what outs)))
+    ∙ ap (λ (ps : List Point). a ++ points_text t past key ps) (sym (points_in-cons what x outs))
 
 -- one entry more
-pub tell-entry : (setup : SetupState) (past : List Entry) (key : List ℕ) (e : Entry) (before : List Entry) (a b : List ℕ) → a ≡ points_text setup past key (points before) → b ≡ a ++ points_text setup past key (points_of e.input e.outputs) → b ≡ points_text setup past key (points (e ∷ before))
-tell-entry setup past key e before a b is told =
-    told ∙ ap (λ front. front ++ points_text setup past key (points_of e.input e.outputs)) is ∙ sym (points_text-append setup past key (points before) (points_of e.input e.outputs))
+pub tell-entry : (t : Table) (past : List Entry) (key : List ℕ) (e : Entry) (before : List Entry) (a b : List ℕ) → a ≡ points_text t past key (points before) → b ≡ a ++ points_text t past key (points_of e.input e.outputs) → b ≡ points_text t past key (points (e ∷ before))
+tell-entry t past key e before a b is told =
+    told ∙ ap (λ front. front ++ points_text t past key (points_of e.input e.outputs)) is ∙ sym (points_text-append t past key (points before) (points_of e.input e.outputs))
 
 -- a point that lies on the path and is shown is told, and no other
 told-point : (s : State) (p : Point) (on shown : Bool) (rest : List Point) (text : List ℕ)
@@ -51,11 +55,20 @@ cond-filter : {A : Type 0} (q : A → Bool) (on : Bool) (x : A) (xs : List A) �
 cond-filter q true x xs = refl
 cond-filter q false x xs = refl
 
-pub told-points : (setup : SetupState) (past : List Entry) (key : List ℕ) (s : State) (ps : List Point) → told_text (told_from s (map call_of (filter (is_shown_point past) (filter (is_on_path setup key) ps)))) ≡ points_text setup past key ps
-told-points setup past key s [] = refl
-told-points setup past key s (p ∷ ps) =
-    ap (λ (qs : List Point). told_text (told_from s (map call_of qs))) (cond-filter (is_shown_point past) (is_on_path setup key p) p (filter (is_on_path setup key) ps))
-    ∙ told-point s p (is_on_path setup key p) (is_shown_point past p) (filter (is_shown_point past) (filter (is_on_path setup key) ps)) (points_text setup past key ps) (λ t. told-points setup past key t ps)
+told-points : (setup : SetupState) (t : Table) (past : List Entry) (key : List ℕ) (s : State) (ps : List Point) → setup.hashes ≡ t.config.hashes
+    → told_text (told_from s (map call_of (filter (is_shown_point past) (filter (is_on_path setup t key) ps)))) ≡ points_text t past key ps
+told-points setup t past key s [] e = refl
+told-points setup t past key s (p ∷ ps) e =
+    ap (λ (qs : List Point). told_text (told_from s (map call_of qs))) (cond-filter (is_shown_point past) (is_on_path setup t key p) p (filter (is_on_path setup t key) ps))
+    ∙ told-point s p (is_on_path setup t key p) (is_shown_point past p) (filter (is_shown_point past) (filter (is_on_path setup t key) ps)) (points_text t past key ps) (λ r. told-points setup t past key r ps e)
+    ∙ ap (λ on. cond (on && is_shown_point past p) (told_op p.op.0) [] ++ points_text t past key ps) (on_path-hashes setup t.config t key p e)
+
+-- the points that are told by the table of a journal are those of the story
+pub points-story : (setup : SetupState) (t : Table) (past : List Entry) (key : List ℕ) → t ≡ told_table setup past → t.config.hashes ≡ setup.hashes
+    → points_text t past key (points past) ≡ told_text (story setup past key)
+points-story setup t past key is hashes =
+    sym (told-points setup t past key None (points past) (sym hashes))
+    ∙ ap (λ (u : Table). told_text (told_from None (map call_of (filter (is_shown_point past) (filter (is_on_path setup u key) (points past)))))) is
 
 -- lines by texts that are the stories' are the stories' lines
 pub lines-by : (texts : Texts) (setup : SetupState) (past : List Entry) → ((key : List ℕ) → text_at texts key ≡ told_text (story setup past key)) → (keys : List (List ℕ)) → map (line_by texts) keys ≡ map (story_line setup past) keys

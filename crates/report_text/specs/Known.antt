@@ -1,4 +1,4 @@
--- What is kept of a journal by the numbers of operations.
+-- What is kept of a journal, and of refused requests, by the numbers of operations.
 use Rattle.std.specs.Prelude.{◌≡◌, ℕ, List, Option, Some, None}
 use Rattle.std.specs.Ordering.{nat_cmp}
 use Rattle.std.specs.BTreeMap.{BTreeMap, get}
@@ -9,7 +9,12 @@ use Rattle.node_core.specs.declared.journal.Entry.{Entry}
 use Rattle.world_core.specs.Run.{is_requested}
 use Rattle.world_core.specs.Story.{answer, is_done_outcome}
 use Rattle.report_text.specs.declared.answered.Answered.{Answered}
-use Rattle.report_text.specs.Report.{outcome_text}
+use Rattle.report_text.specs.Report.{outcome_text, is_down}
+
+-- the entries of a journal, the newest first, and the operations that were asked of nodes that were down
+pub record KnownState : Type 0 where
+  pub past : List Entry
+  pub down : List OpId
 
 -- an outcome as it is kept
 abbrev pub answered : Outcome → Answered
@@ -35,3 +40,7 @@ KeepsAnswers answers past = (n : ℕ) → get nat_cmp answers n ≡ all_answered
 -- a set has each operation that a journal requests
 abbrev pub KeepsRequests : BTreeSet ℕ → List Entry → Type 0
 KeepsRequests requested past = (n : ℕ) → contains nat_cmp requested n ≡ is_requested past (op_of n)
+
+-- a set has each operation that was asked of a node that was down
+abbrev pub KeepsDown : BTreeSet ℕ → List OpId → Type 0
+KeepsDown set down = (n : ℕ) → contains nat_cmp set n ≡ is_down down (op_of n)

@@ -1,5 +1,6 @@
 -- The report: one line a fact, each ending with LF.
-use Rattle.std.specs.Prelude.{ℕ, Bool, codes, List, [], ◌∷◌, ◌++◌, length, map, Option, Some, None, if◌then◌else◌}
+use Rattle.std.specs.Prelude.{ℕ, ◌+◌, ◌==◌, Bool, codes, List, [], ◌∷◌, ◌++◌, length, map, Option, Some, None, if◌then◌else◌}
+use Rattle.std.specs.List.{list_any}
 use Rattle.std.specs.Fmt.{decimal}
 use Rattle.std.specs.Str.{is_utf8}
 use Rattle.std.specs.Ordering.{nat_cmp}
@@ -13,6 +14,11 @@ use Rattle.register_laws.specs.declared.operation.Reply.{Reply}
 use Rattle.register_laws.specs.declared.operation.Reply.TheVariants.{Was, Swapped, Kept}
 use Rattle.register_laws.specs.declared.operation.Told.{Told}
 use Rattle.contract_types.specs.Setup.{SetupState}
+use Rattle.contract_types.specs.declared.change.Change.{Change}
+use Rattle.table_apply.specs.declared.applied.Applied.{Applied}
+use Rattle.table_apply.specs.declared.applied.Applied.TheVariants.{Taken, Skipped}
+use Rattle.table_apply.specs.declared.applied.Condition.{Condition}
+use Rattle.table_apply.specs.declared.applied.Condition.TheVariants.{Removed, Regions, Primary, IdNew, Tenure, BasedOn}
 use Rattle.contract_types.specs.declared.counts.Counts.{Counts}
 use Rattle.contract_types.specs.declared.limits.Which.{Which}
 use Rattle.contract_types.specs.declared.limits.Which.TheVariants.{ScriptBytes, LineBytes, JournalEntries, JournalWeight, Numbers}
@@ -20,14 +26,15 @@ use Rattle.exec_types.specs.declared.outcome.Outcome.{Outcome}
 use Rattle.exec_types.specs.declared.outcome.Outcome.TheVariants.{Done, NotServing, NoMajority}
 use Rattle.node_core.specs.declared.journal.Entry.{Entry}
 use Rattle.world_core.specs.Run.{is_requested}
+use Rattle.world_core.specs.Latest.{longest}
 use Rattle.world_core.specs.Story.{answer, story}
 use Rattle.script_text.specs.declared.script.ScriptWord.{ScriptWord}
-use Rattle.script_text.specs.declared.script.ScriptWord.TheVariants.{Request, GiveUp, Deliver, Lose, Flush}
+use Rattle.script_text.specs.declared.script.ScriptWord.TheVariants.{Request, GiveUp, See, Crash, Restart, Tick, Deliver, Lose, LoseBetween, Flush, Settle}
 use Rattle.script_text.specs.declared.script.ScriptItem.{ScriptItem}
 use Rattle.script_text.specs.declared.status.Reason.{Reason}
 use Rattle.script_text.specs.Statuses.{reason_text}
 use Rattle.report_text.specs.declared.ending.EventRefused.{EventRefused}
-use Rattle.report_text.specs.declared.ending.EventRefused.TheVariants.{NoSuchMessage}
+use Rattle.report_text.specs.declared.ending.EventRefused.TheVariants.{Down, Up, NoSuchMessage, NotYours}
 use Rattle.report_text.specs.declared.ending.Refusal.{Refusal}
 use Rattle.report_text.specs.declared.ending.Ending.{Ending}
 use Rattle.report_text.specs.declared.ending.Ending.TheVariants.{End, Limit}
@@ -75,33 +82,73 @@ outcome_text (Done reply branch timestamp) = codes "done " ++ reply_text reply +
 outcome_text NotServing = codes "unavailable not_serving"
 outcome_text (NoMajority counts) = codes "unavailable no_majority " ++ counts_text counts
 
--- an operation that was not answered is open where it was requested, and else was not sent
-abbrev pub fate_text : Option Outcome → Bool → Text
-fate_text None requested = if requested then codes "open" else codes "unsent"
-fate_text (Some outcome) requested = outcome_text outcome
+-- an operation that was not requested was refused by a node that was down, or was not sent
+abbrev pub unasked_text : Bool → Text
+unasked_text down = if down then codes "down" else codes "unsent"
 
-abbrev pub op_line : List Entry → OpId → Text
-op_line past op = ended (codes "op " ++ decimal op.0 ++ codes " " ++ fate_text (answer past op) (is_requested past op))
+-- an operation that was not answered is open where it was requested
+abbrev pub fate_text : Option Outcome → Bool → Bool → Text
+fate_text None requested down = if requested then codes "open" else unasked_text down
+fate_text (Some outcome) requested down = outcome_text outcome
+
+-- the operation is among those that were asked of a node that was down
+abbrev pub is_down : List OpId → OpId → Bool
+is_down down op = list_any (λ q. q.0 == op.0) down
+
+abbrev pub op_line : List Entry → List OpId → OpId → Text
+op_line past down op =
+    ended (codes "op " ++ decimal op.0 ++ codes " " ++ fate_text (answer past op) (is_requested past op) (is_down down op))
 
 -- the line of a word that asks for an operation, before others
-abbrev pub with_op_line : List Entry → ScriptWord → List Text → List Text
-with_op_line past (Request op node key what) rest = op_line past op ∷ rest
-with_op_line past (GiveUp node op) rest = rest
-with_op_line past (Deliver message) rest = rest
-with_op_line past (Lose message) rest = rest
-with_op_line past Flush rest = rest
+abbrev pub with_op_line : List Entry → List OpId → ScriptWord → List Text → List Text
+with_op_line past down (Request op node key what) rest = op_line past down op ∷ rest
+with_op_line past down (GiveUp node op) rest = rest
+with_op_line past down (See node other up) rest = rest
+with_op_line past down (Crash node) rest = rest
+with_op_line past down (Restart node) rest = rest
+with_op_line past down (Tick node) rest = rest
+with_op_line past down (Deliver message to) rest = rest
+with_op_line past down (Lose message) rest = rest
+with_op_line past down (LoseBetween from to) rest = rest
+with_op_line past down (Flush only) rest = rest
+with_op_line past down (Settle rounds only) rest = rest
 
-abbrev pub op_lines : List Entry → List ScriptItem → List Text
-op_lines past [] = []
-op_lines past (item ∷ items) = with_op_line past item.word (op_lines past items)
+abbrev pub op_lines : List Entry → List OpId → List ScriptItem → List Text
+op_lines past down [] = []
+op_lines past down (item ∷ items) = with_op_line past down item.word (op_lines past down items)
 
 -- ---- refused events
 
 abbrev pub event_refused_text : EventRefused → Text
+event_refused_text Down = codes "down"
+event_refused_text Up = codes "up"
 event_refused_text NoSuchMessage = codes "no_such_message"
+event_refused_text NotYours = codes "not_yours"
 
 abbrev pub refusal_line : Refusal → Text
 refusal_line refusal = ended (codes "refused " ++ decimal refusal.line ++ codes " " ++ event_refused_text refusal.reason)
+
+-- ---- skipped changes
+
+abbrev pub condition_text : Condition → Text
+condition_text Removed = codes "removed"
+condition_text Regions = codes "regions"
+condition_text Primary = codes "primary"
+condition_text IdNew = codes "id_new"
+condition_text Tenure = codes "tenure"
+condition_text BasedOn = codes "based_on"
+
+abbrev pub skipped_line : ℕ → Condition → Text
+skipped_line index condition = ended (codes "skipped " ++ decimal index ++ codes " " ++ condition_text condition)
+
+abbrev pub with_skipped : ℕ → Applied → List Text → List Text
+with_skipped index Taken rest = rest
+with_skipped index (Skipped condition) rest = skipped_line index condition ∷ rest
+
+-- the changes of a log that were skipped, of which the first has this index
+abbrev pub skipped_lines : ℕ → List (Change × Applied) → List Text
+skipped_lines index [] = []
+skipped_lines index (r ∷ rs) = with_skipped index r.1 (skipped_lines (index + 1) rs)
 
 -- ---- stories
 
@@ -109,9 +156,15 @@ refusal_line refusal = ended (codes "refused " ++ decimal refusal.line ++ codes 
 abbrev pub with_key : List Text → ScriptWord → List Text
 with_key keys (Request op node key what) = insert_key (slice_cmp nat_cmp) keys key
 with_key keys (GiveUp node op) = keys
-with_key keys (Deliver message) = keys
+with_key keys (See node other up) = keys
+with_key keys (Crash node) = keys
+with_key keys (Restart node) = keys
+with_key keys (Tick node) = keys
+with_key keys (Deliver message to) = keys
 with_key keys (Lose message) = keys
-with_key keys Flush = keys
+with_key keys (LoseBetween from to) = keys
+with_key keys (Flush only) = keys
+with_key keys (Settle rounds only) = keys
 
 abbrev pub keys_from : List Text → List ScriptItem → List Text
 keys_from keys [] = keys
@@ -147,11 +200,13 @@ table_text nodes hashes shards = codes "nodes " ++ decimal nodes ++ codes " hash
 abbrev pub header_line : SetupState → Text
 header_line setup = ended (codes "table " ++ table_text setup.nodes setup.hashes (length setup.shards))
 
--- the lines of the report of a script, its journal, the events that were refused, and how the run ended
-abbrev pub report : SetupState → List ScriptItem → List Entry → List Refusal → Ending → List Text
-report setup items past refused ending =
+-- the lines of the report of a script, its journal, the operations that were asked of nodes that were down, the other events
+-- that were refused, and how the run ended
+abbrev pub report : SetupState → List ScriptItem → List Entry → List OpId → List Refusal → Ending → List Text
+report setup items past down refused ending =
     header_line setup
-    ∷ (op_lines past items ++ map refusal_line refused ++ map (story_line setup past) (keys_from [] items) ++ ending_line ending ∷ [])
+    ∷ (op_lines past down items ++ map refusal_line refused ++ skipped_lines 1 (longest setup past)
+    ++ map (story_line setup past) (keys_from [] items) ++ ending_line ending ∷ [])
 
 -- the bytes of some lines
 abbrev pub joined : List Text → Text

@@ -4,7 +4,7 @@ use Rattle.std.specs.Fmt.{decimal}
 use Rattle.std.specs.Ordering.{nat_cmp}
 use Rattle.std.specs.Cmp.Lexicographic.{slice_cmp}
 use Rattle.std.specs.BTreeMap.{BTreeMap, get}
-use Rattle.contract_types.specs.Setup.{SetupState}
+use Rattle.contract_types.specs.Tables.{Table}
 use Rattle.node_core.specs.declared.journal.Entry.{Entry}
 use Rattle.world_core.specs.Story.{Point, is_on_path, is_shown_point}
 use Rattle.report_text.specs.Report.{ended, bytes_text}
@@ -24,13 +24,13 @@ text_at texts key = text_or_none (get (slice_cmp nat_cmp) texts key)
 abbrev pub told_op : ℕ → List ℕ
 told_op n = codes " " ++ decimal n
 
--- what a point adds to the story of a key
-abbrev pub point_text : SetupState → List Entry → List ℕ → Point → List ℕ
-point_text setup past key p = if is_on_path setup key p && is_shown_point past p then told_op p.op.0 else []
+-- what a point adds to the story of a key, by the branches of a table
+abbrev pub point_text : Table → List Entry → List ℕ → Point → List ℕ
+point_text t past key p = if is_on_path t.config t key p && is_shown_point past p then told_op p.op.0 else []
 
-abbrev pub points_text : SetupState → List Entry → List ℕ → List Point → List ℕ
-points_text setup past key [] = []
-points_text setup past key (p ∷ ps) = point_text setup past key p ++ points_text setup past key ps
+abbrev pub points_text : Table → List Entry → List ℕ → List Point → List ℕ
+points_text t past key [] = []
+points_text t past key (p ∷ ps) = point_text t past key p ++ points_text t past key ps
 
 -- the line of a key with this text of its story
 abbrev pub line_with : List ℕ → List ℕ → List ℕ

@@ -4,8 +4,14 @@ use contract_types::Which;
 /// Why an event of a script did nothing.
 #[derive(Clone, Copy, Debug, PartialEq, Eq)]
 pub enum EventRefused {
+    /// The node was down.
+    Down,
+    /// The node was up.
+    Up,
     /// No message of that number was sent.
     NoSuchMessage,
+    /// The message is for another node.
+    NotYours,
 }
 
 /// An event of the script that did nothing, by its line.

@@ -1,4 +1,5 @@
-//! The report of a script and its journal: what became of each operation, and each key's story.
+//! The report of a script and its journal: what became of each operation, which changes of the
+//! log were skipped, and each key's story.
 //!
 //! Above: the programs. Below: `world_core`, `script_text`, `line_io`.
 //! Promise: the bytes written are the report's lines, each as one piece; where writing failed, a prefix of them.
@@ -14,6 +15,7 @@ pub use texts::{limit_line, read_fault_line, script_line, usage_line};
 mod answered;
 pub mod ending;
 mod known;
+mod latest;
 pub mod print_refused;
 pub mod printed;
 pub mod printing;

@@ -1,49 +1,53 @@
 //! The stories of keys, gathered in one walk over a journal.
-ghost use Rattle.std.specs.Prelude.{◌≡◌, ◌++◌, ◌∷◌, [], ℕ, List, None, IfOk, OnOk, if◌then◌else◌};
+ghost use Rattle.std.specs.Prelude.{◌≡◌, ◌++◌, ◌∷◌, [], ℕ, List, Some, None, IfOk, OnOk, if◌then◌else◌};
 ghost use Rattle.std.specs.Ordering.{nat_cmp};
 ghost use Rattle.std.specs.Cmp.Lexicographic.{slice_cmp};
 ghost use Rattle.std.specs.BTreeMap.{get, is_at};
 ghost use Rattle.register_laws.specs.Lists.{is_read};
-ghost use Rattle.world_core.specs.Story.{branch_of, is_branch, same_key, is_shown, points, points_in, points_of};
+ghost use Rattle.world_core.specs.Story.{branch_in, is_on_branch, same_key, is_shown, points, points_in, points_of};
 ghost use Rattle.report_text.specs.Report.{keys_from, with_key};
 ghost use Rattle.report_text.specs.Stories.{text_at, told_op, points_text, line_by};
 
 use crate::Printed;
 use crate::known::Known;
 use crate::texts::bytes_text;
-use branch_history::version::is_same_id;
-use contract_types::{Setup, setup_id};
+use branch_history::Version;
+use contract_types::TableState;
 use exec_types::{Input, Output};
 use memory::OutOfMemory;
 use node_core::Entry;
-use region_map::{Id, Key, hash_of};
+use region_map::{Id, Key};
 use register_laws::{Op, OpId};
 use script_text::{ScriptItem, ScriptWord};
 use std::alloc::Global;
 use std::collections::{BTreeMap, BTreeSet};
 
-/// The current branch of a key: that of its shard.
-fn branch_of(setup: &Setup, key: &Key) -> Option<Id>
-    ensures { result ≡ branch_of setup.now key.now }
+/// The current branch of a key.
+fn branch_of(table: &TableState, key: &Key) -> Option<Id>
+    ensures { result ≡ branch_in table.now.config table.now key.now }
 {
-    let hash = hash_of(key, setup.hashes());
-    let shards = setup.config().shards();
-    let mut branch = None;
-    for place in 0..shards.len() {
-        let shard = &shards[place];
-        if shard.region.contains_at(hash, key) {
-            branch = Some(setup_id(place as u64, shard.primary));
-        }
-    }
-    branch
+    let _hashes = table.config().hashes();
+    table.current().get(key).copied()
 }
 
-/// Whether a branch is the current one of a key.
-fn is_current(setup: &Setup, key: &Key, branch: &Id) -> bool
-    ensures { result ≡ is_branch (branch_of setup.now key.now) branch.now }
+/// Whether a version lies on the path of the whole of a key's current branch.
+fn is_on_whole(table: &TableState, key: &Key, branch: Id, version: &Version) -> bool
+    requires { branch_in table.now.config table.now key.now ≡ Some branch }
+    ensures { result ≡ is_on_branch table.now.config table.now key.now (Some branch) version.now }
 {
-    match branch_of(setup, key) {
-        Some(current) => is_same_id(&current, branch),
+    let whole = Version {
+        branch: Some(branch),
+        timestamp: u64::MAX,
+    };
+    table.history().path_has(&whole, key, version)
+}
+
+/// Whether a version lies on the path of a key's current branch.
+fn is_on_current(table: &TableState, key: &Key, version: &Version) -> bool
+    ensures { result ≡ is_on_branch table.now.config table.now key.now (branch_in table.now.config table.now key.now) version.now }
+{
+    match branch_of(table, key) {
+        Some(branch) => is_on_whole(table, key, branch, version),
         None => false,
     }
 }
@@ -56,7 +60,7 @@ fn is_read(what: &Op) -> bool
 
 /// Whether an operation stands in stories.
 fn is_shown(known: &Known, op: OpId, what: &Op) -> bool
-    ensures { result ≡ is_shown known.now op what.now }
+    ensures { result ≡ is_shown known.now.past op what.now }
 {
     !is_read(what) || known.is_done(op)
 }
@@ -92,23 +96,27 @@ fn tell(
 
 fn tell_output(
     alloc: Global,
-    setup: &Setup,
+    table: &TableState,
     known: &Known,
     texts: &mut BTreeMap<Key, Printed>,
     what: &Op,
     output: &Output,
 ) -> Result<(), OutOfMemory>
     ensures { OnOk result ((key : List ℕ) → text_at texts.new key
-        ≡ text_at texts.old key ++ points_text setup.now known.now key (points_in what.now (output.now ∷ []))) }
+        ≡ text_at texts.old key ++ points_text table.now known.now.past key (points_in what.now (output.now ∷ []))) }
 {
     if let Output::Dispatched {
         op,
         key,
         branch,
-        ..
+        timestamp,
     } = output
     {
-        if is_shown(known, *op, what) && is_current(setup, key, branch) {
+        let version = Version {
+            branch: Some(*branch),
+            timestamp: *timestamp,
+        };
+        if is_shown(known, *op, what) && is_on_current(table, key, &version) {
             return tell(alloc, texts, key, *op);
         }
     }
@@ -117,33 +125,33 @@ fn tell_output(
 
 fn tell_outputs(
     alloc: Global,
-    setup: &Setup,
+    table: &TableState,
     known: &Known,
     texts: &mut BTreeMap<Key, Printed>,
     what: &Op,
     outputs: &[Output],
 ) -> Result<(), OutOfMemory>
     ensures { OnOk result ((key : List ℕ) → text_at texts.new key
-        ≡ text_at texts.old key ++ points_text setup.now known.now key (points_in what.now outputs.now)) }
+        ≡ text_at texts.old key ++ points_text table.now known.now.past key (points_in what.now outputs.now)) }
 {
     for output in outputs {
-        tell_output(alloc, setup, known, texts, what, output)?;
+        tell_output(alloc, table, known, texts, what, output)?;
     }
     Ok(())
 }
 
 fn tell_entry(
     alloc: Global,
-    setup: &Setup,
+    table: &TableState,
     known: &Known,
     texts: &mut BTreeMap<Key, Printed>,
     entry: &Entry,
 ) -> Result<(), OutOfMemory>
     ensures { OnOk result ((key : List ℕ) → text_at texts.new key
-        ≡ text_at texts.old key ++ points_text setup.now known.now key (points_of entry.now.input entry.now.outputs)) }
+        ≡ text_at texts.old key ++ points_text table.now known.now.past key (points_of entry.now.input entry.now.outputs)) }
 {
     if let Input::Request { what, .. } = &entry.input {
-        return tell_outputs(alloc, setup, known, texts, what, entry.outputs.as_slice());
+        return tell_outputs(alloc, table, known, texts, what, entry.outputs.as_slice());
     }
     Ok(())
 }
@@ -151,15 +159,15 @@ fn tell_entry(
 /// What the story of each key tells.
 pub(crate) fn texts_of(
     alloc: Global,
-    setup: &Setup,
+    table: &TableState,
     known: &Known,
 ) -> Result<BTreeMap<Key, Printed>, OutOfMemory>
-    ensures { IfOk result (λ texts. (key : List ℕ) → text_at texts key ≡ points_text setup.now known.now key (points known.now)) }
+    ensures { IfOk result (λ texts. (key : List ℕ) → text_at texts key ≡ points_text table.now known.now.past key (points known.now.past)) }
 {
     let entries = known.entries();
     let mut texts = BTreeMap::new(alloc);
     for entry in entries {
-        tell_entry(alloc, setup, known, &mut texts, entry)?;
+        tell_entry(alloc, table, known, &mut texts, entry)?;
     }
     Ok(texts)
 }

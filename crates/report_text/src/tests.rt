@@ -1,20 +1,30 @@
 ghost use Rattle.std.specs.Prelude.{◌<◌};
 
 use super::*;
-use contract_types::{Counts, Setup, ShardConfig, TableConfig, Which};
+use branch_history::Version;
+use contract_types::{Change, Contracts, Counts, Ids, Setup, ShardConfig, TableConfig, Which};
 use exec_types::{Input, Outcome, Output, Outputs};
 use line_io::MemorySink;
 use node_core::{Entry, Journal};
-use region_map::{Id, Key, NodeId, NodeSet, Region};
+use region_map::{Id, Key, NodeId, NodeSet, Region, RegionMap};
 use register_laws::{Op, OpId, Reply, Value};
 use script_text::{Reason, ScriptItem, ScriptWord};
 use std::alloc::Global;
 use std::test::Fail;
+use table_apply::{Applied, Condition};
+use table_log::Results;
 
 const FIRST: Id = Id {
     node: NodeId(0),
     life: 1,
     counter: 0,
+};
+
+/// The first branch of the second of two shards, whose primary is node 2.
+const SECOND: Id = Id {
+    node: NodeId(2),
+    life: 1,
+    counter: 1,
 };
 
 fn value(alloc: Global, text: &str) -> Result<Option<Value>, Fail> {
@@ -172,19 +182,25 @@ fn play_on_b(alloc: Global, journal: &mut Journal) -> Result<(), Fail> {
 }
 
 const ALL_FATES: &str =
-    "table nodes 3 hash 8 shards 1\nop 1 done none 0.1.0:2\nop 2 done \"\u{e9}\\\"\" 0.1.0:3\nop 3 done kept \"x\" 0.1.0:4\nop 4 done swapped 0.1.0:5\nop 5 done kept none 0.1.0:6\nop 6 unavailable not_serving\nop 7 unavailable no_majority voters 1 of 3 temp 2 of 5\nop 8 open\nop 9 unsent\nrefused 12 no_such_message\nstory \"a\" 2 3 4 5\nstory \"b\" 1 7\nlimit journal_entries 20000\n";
+    "table nodes 3 hash 8 shards 1\nop 1 done none 0.1.0:2\nop 2 done \"\u{e9}\\\"\" 0.1.0:3\nop 3 done kept \"x\" 0.1.0:4\nop 4 done swapped 0.1.0:5\nop 5 done kept none 0.1.0:6\nop 6 unavailable not_serving\nop 7 unavailable no_majority voters 1 of 3 temp 2 of 5\nop 8 open\nop 9 unsent\nop 10 down\nrefused 12 no_such_message\nrefused 14 not_yours\nstory \"a\" 2 3 4 5\nstory \"b\" 1 7\nlimit journal_entries 20000\n";
 
 #[test]
 fn tells_what_became_of_each_operation(rt: HostRuntime) -> Result<(), Fail> {
     let alloc = rt.alloc();
-    let items = read_items(alloc, &["b", "a", "a", "a", "a", "b", "b", "b", "b"])?;
+    let items = read_items(alloc, &["b", "a", "a", "a", "a", "b", "b", "b", "b", "a"])?;
     let mut journal = Journal::empty(alloc);
     play_on_b(alloc, &mut journal)?;
     play_on_a(alloc, &mut journal)?;
-    let refused = [Refusal {
-        line: 12,
-        reason: EventRefused::NoSuchMessage,
-    }];
+    let refused = [
+        Refusal {
+            line: 12,
+            reason: EventRefused::NoSuchMessage,
+        },
+        Refusal {
+            line: 14,
+            reason: EventRefused::NotYours,
+        },
+    ];
     let ending = Ending::Limit {
         which: Which::JournalEntries,
         number: 20000,
@@ -192,7 +208,16 @@ fn tells_what_became_of_each_operation(rt: HostRuntime) -> Result<(), Fail> {
     let mut sink = MemorySink::new(alloc, Vec::new(alloc));
     sink.reserve(1000)?;
     let setup = Setup::whole(alloc, 3, 8)?;
-    print_report(alloc, &setup, &items, &journal, &refused, ending, &mut sink)?;
+    print_report(
+        alloc,
+        &setup,
+        &items,
+        &journal,
+        &[OpId(10)],
+        &refused,
+        ending,
+        &mut sink,
+    )?;
     assert_eq!(rt; sink.bytes(), ALL_FATES.as_bytes());
     Ok(())
 }
@@ -233,6 +258,7 @@ fn dispatch(
     op: u64,
     key: &str,
     branch: Id,
+    timestamp: u64,
 ) -> Result<(), Fail> {
     let op = OpId(op);
     let key = Key::new(key.as_bytes().to_vec(alloc)?)?;
@@ -241,7 +267,7 @@ fn dispatch(
         op,
         key: key.copy(alloc)?,
         branch,
-        timestamp: 1,
+        timestamp,
     })?;
     journal.push(Entry {
         node: branch.node,
@@ -255,26 +281,117 @@ fn dispatch(
     Ok(())
 }
 
+/// A tick at which a node acted on its log from its first change on.
+fn view(
+    alloc: Global,
+    journal: &mut Journal,
+    node: NodeId,
+    results: Vec<(Change, Applied)>,
+) -> Result<(), Fail> {
+    let mut outputs = Outputs::new(alloc);
+    outputs.push(Output::Viewed {
+        first: 1,
+        results: Results::from(results),
+    })?;
+    journal.push(Entry {
+        node,
+        input: Input::Tick,
+        outputs,
+    })?;
+    Ok(())
+}
+
 #[test]
 fn tells_the_current_branch_of_each_key(rt: HostRuntime) -> Result<(), Fail> {
     let alloc = rt.alloc();
-    let second = Id {
-        node: NodeId(2),
-        life: 1,
-        counter: 1,
-    };
     let mut journal = Journal::empty(alloc);
-    dispatch(alloc, &mut journal, 1, "a", FIRST)?;
-    dispatch(alloc, &mut journal, 2, "z", FIRST)?;
-    dispatch(alloc, &mut journal, 3, "z", second)?;
+    dispatch(alloc, &mut journal, 1, "a", FIRST, 1)?;
+    view(alloc, &mut journal, NodeId(1), Vec::new(alloc))?;
+    dispatch(alloc, &mut journal, 2, "z", FIRST, 1)?;
+    dispatch(alloc, &mut journal, 3, "z", SECOND, 1)?;
     let items = read_items(alloc, &["a", "z", "z"])?;
     let setup = two_shards(alloc)?;
     let mut sink = MemorySink::new(alloc, Vec::new(alloc));
     sink.reserve(1000)?;
-    print_report(alloc, &setup, &items, &journal, &[], Ending::End, &mut sink)?;
+    print_report(
+        alloc,
+        &setup,
+        &items,
+        &journal,
+        &[],
+        &[],
+        Ending::End,
+        &mut sink,
+    )?;
     assert_eq!(rt;
         sink.bytes(),
         b"table nodes 3 hash 1 shards 2\nop 1 open\nop 2 open\nop 3 open\nstory \"a\" 1\nstory \"z\" 3\nend\n".as_slice()
+    );
+    Ok(())
+}
+
+/// No contract has this id.
+fn skipped(alloc: Global) -> Result<Change, Fail> {
+    Ok(Change::NewContracts {
+        removed: Ids::from(vec![in alloc; SECOND]?),
+        added: Contracts::from(Vec::new(alloc)),
+    })
+}
+
+/// Node 2 begins a branch of the keys from m on, which goes on from timestamp 2 of the one before.
+fn next_branch(alloc: Global, branch: Id) -> Result<Change, Fail> {
+    let from = Key::new("m".as_bytes().to_vec(alloc)?)?;
+    let region = shard(Some(from), None, 2).region;
+    let end = Version {
+        branch: Some(SECOND),
+        timestamp: 2,
+    };
+    let based_on = RegionMap::constant(alloc, region.copy(alloc)?, 1, SECOND)?;
+    let origin = RegionMap::constant(alloc, region.copy(alloc)?, 1, end)?;
+    Ok(Change::RegisterBranch {
+        branch,
+        region,
+        tenure: 0,
+        maker: NodeId(2),
+        based_on,
+        origin,
+    })
+}
+
+#[test]
+fn tells_skipped_changes_and_follows_the_log(rt: HostRuntime) -> Result<(), Fail> {
+    let alloc = rt.alloc();
+    let third = Id {
+        node: NodeId(2),
+        life: 1,
+        counter: 2,
+    };
+    let mut journal = Journal::empty(alloc);
+    dispatch(alloc, &mut journal, 1, "z", SECOND, 1)?;
+    dispatch(alloc, &mut journal, 2, "z", SECOND, 3)?;
+    let mut results = Vec::new(alloc);
+    results.push((skipped(alloc)?, Applied::Skipped(Condition::Removed)))?;
+    results.push((next_branch(alloc, third)?, Applied::Taken))?;
+    view(alloc, &mut journal, NodeId(0), Vec::new(alloc))?;
+    view(alloc, &mut journal, NodeId(1), results)?;
+    dispatch(alloc, &mut journal, 3, "z", third, 3)?;
+    let items = read_items(alloc, &["z"])?;
+    let setup = two_shards(alloc)?;
+    let mut sink = MemorySink::new(alloc, Vec::new(alloc));
+    sink.reserve(1000)?;
+    print_report(
+        alloc,
+        &setup,
+        &items,
+        &journal,
+        &[],
+        &[],
+        Ending::End,
+        &mut sink,
+    )?;
+    assert_eq!(rt;
+        sink.bytes(),
+        b"table nodes 3 hash 1 shards 2\nop 1 open\nskipped 1 removed\nstory \"z\" 1 3\nend\n".as_slice()
     );
     Ok(())
 }
@@ -291,6 +408,7 @@ fn stops_at_a_fault(rt: HostRuntime) -> Result<(), Fail> {
         &Setup::whole(alloc, 1, 1)?,
         &items,
         &journal,
+        &[],
         &[],
         Ending::End,
         &mut sink,

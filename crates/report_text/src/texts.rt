@@ -4,7 +4,7 @@ ghost use Rattle.std.specs.Prelude.{◌≡◌, IfOk};
 ghost use Rattle.std.specs.String.{string_bytes};
 ghost use Rattle.serde_json.specs.Data.{string};
 ghost use Rattle.serde_json.specs.Written.{compact_text};
-ghost use Rattle.report_text.specs.Report.{bytes_text, value_text, reply_text, id_text, pair_text, temp_text, counts_text, outcome_text, event_refused_text, refusal_line, which_text, limit_line, header_line, table_text, ending_line, usage_line, read_fault_line, script_line};
+ghost use Rattle.report_text.specs.Report.{bytes_text, value_text, reply_text, id_text, pair_text, temp_text, counts_text, outcome_text, event_refused_text, refusal_line, condition_text, skipped_line, which_text, limit_line, header_line, table_text, ending_line, usage_line, read_fault_line, script_line};
 
 use crate::{Ending, EventRefused, Printed, Refusal};
 use contract_types::{Counts, Setup, Which};
@@ -15,6 +15,7 @@ use register_laws::{Reply, Value};
 use script_text::Reason;
 use std::alloc::Global;
 use std::str;
+use table_apply::Condition;
 
 fn json_text(alloc: Global, text: &str) -> Result<String, OutOfMemory>
     ensures { IfOk result (λ s. string_bytes s ≡ compact_text (string text.now)) }
@@ -115,7 +116,10 @@ fn event_refused_text(reason: EventRefused) -> &'static str
     ensures { result.now ≡ event_refused_text reason }
 {
     match reason {
+        EventRefused::Down => "down",
+        EventRefused::Up => "up",
         EventRefused::NoSuchMessage => "no_such_message",
+        EventRefused::NotYours => "not_yours",
     }
 }
 
@@ -125,6 +129,31 @@ pub(crate) fn refusal_line(alloc: Global, refusal: Refusal) -> Result<Printed, O
 {
     let reason = event_refused_text(refusal.reason);
     Ok(Printed::new(format!(in alloc; "refused {} {reason}\n", refusal.line)?))
+}
+
+fn condition_text(condition: Condition) -> &'static str
+    ensures { result.now ≡ condition_text condition }
+{
+    match condition {
+        Condition::Removed => "removed",
+        Condition::Regions => "regions",
+        Condition::Primary => "primary",
+        Condition::IdNew => "id_new",
+        Condition::Tenure => "tenure",
+        Condition::BasedOn => "based_on",
+    }
+}
+
+/// The line of a change that was skipped.
+pub(crate) fn skipped_line(
+    alloc: Global,
+    index: u64,
+    condition: Condition,
+) -> Result<Printed, OutOfMemory>
+    ensures { IfOk result (λ line. line ≡ skipped_line index condition) }
+{
+    let condition = condition_text(condition);
+    Ok(Printed::new(format!(in alloc; "skipped {index} {condition}\n")?))
 }
 
 fn which_text(which: Which) -> &'static str

@@ -1,6 +1,11 @@
 -- Laws of the shards that a setup asks for.
-use Rattle.std.proofs.Common.{◌≡◌, ℕ, ◌+◌, ◌<◌, Bool, true, false, not, ◌&&◌, List, length, get_or, drop, Some, None, refl, sym, ap, ◌∙◌, subst, drop-cons, add-one}
+use Rattle.std.proofs.Common.{◌≡◌, ℕ, ◌+◌, ◌<◌, Bool, true, false, not, ◌&&◌, List, length, map, get_or, drop, Some, None, refl, sym, ap, ◌∙◌, subst, drop-cons, add-one}
+use Rattle.std.specs.Prelude.{nat_lt}
+use Rattle.std.specs.List.{list_all}
 use Rattle.std.proofs.lemmas.Bool.{and_parts}
+use Rattle.std.proofs.lemmas.List.Folds.{list_all-map}
+use Rattle.region_map.specs.declared.id.NodeId.{NodeId}
+use Rattle.region_map.specs.Nodes.{node_id}
 use Rattle.serde_json.specs.Data.{item}
 use Rattle.serde_json.specs.View.{view, items_view}
 use Rattle.serde_json.specs.declared.value.Value.{Value}
@@ -14,6 +19,10 @@ use Rattle.script_text.specs.LineReads.{IsRefusedAs, refusal}
 -- the values of a list from a place on
 pub items_view-drop : (xs : List Value) (i : ℕ) (d : Value) → i < length xs → items_view (drop i xs) ≡ item (view (get_or xs i d)) (items_view (drop (i + 1) xs))
 items_view-drop xs i d l = rw (add-one, drop-cons xs i d) refl
+
+-- the members of a set are below a number
+pub all_below : (nodes : ℕ) (set : List ℕ) → list_all (λ (n : NodeId). nat_lt n.0 nodes) (map node_id set) ≡ list_all (λ n. nat_lt n nodes) set
+all_below nodes set = list_all-map (λ (n : NodeId). nat_lt n.0 nodes) node_id set
 
 pub kept_config : (x c : ConfigState) → c ≡ x → IsConfig c → kept_if (is_config x) x ≡ Some c
 kept_config x c e ok = ap (λ b. kept_if b x) ((config_decides x).1 (subst IsConfig e ok)) ∙ ap Some (sym e)

@@ -1,6 +1,6 @@
 -- Every accepted script is sound.
-use Rattle.std.proofs.Common.{⊎_elim, ◌≡◌, ◌⊎◌, inl, inr, append-nil, append_assoc, ℕ, ◌+◌, ◌<◌, Bool, true, false, not, ◌&&◌, List, [], ◌∷◌, ◌++◌, Some, None, refl, sym, subst, arith}
-use Rattle.std.specs.Prelude.{Option, option_and_then, option_map, if◌then◌else◌, bytes_eq, codes, nat_lt}
+use Rattle.std.proofs.Common.{⊎_elim, ◌≡◌, ◌⊎◌, inl, inr, append-nil, append_assoc, ℕ, ◌+◌, ◌<◌, Bool, true, false, not, ◌&&◌, List, [], ◌∷◌, ◌++◌, Some, None, refl, sym, ◌∙◌, subst, arith}
+use Rattle.std.specs.Prelude.{Option, is_some, option_and_then, option_map, if◌then◌else◌, bytes_eq, codes, nat_lt}
 use Rattle.std.specs.List.{list_all}
 use Rattle.std.proofs.lemmas.Bool.Decides.{nat_tests}
 use Rattle.serde_json.specs.Data.{Data}
@@ -13,15 +13,15 @@ use Rattle.contract_types.proofs.Whole.{whole_is_config}
 use Rattle.script_text.specs.declared.script.ScriptWord.{ScriptWord}
 use Rattle.script_text.specs.declared.script.ScriptItem.{ScriptItem}
 use Rattle.script_text.specs.Script.{ScriptState, is_again}
-use Rattle.script_text.specs.declared.script.ScriptWord.TheVariants.{Request, GiveUp, Deliver, Lose, Flush}
+use Rattle.script_text.specs.declared.script.ScriptWord.TheVariants.{Request, GiveUp, See, Crash, Restart, Tick, Deliver, Lose, LoseBetween, Flush, Settle}
 use Rattle.register_laws.specs.declared.operation.OpId.{OpId}
 use Rattle.register_laws.specs.declared.operation.Op.{Op}
 use Rattle.register_laws.specs.declared.operation.Op.TheVariants.{Put, Delete, Cas, Read}
 use Rattle.region_map.specs.declared.id.NodeId.{NodeId}
 use Rattle.region_map.specs.Nodes.{node_id}
-use Rattle.script_text.specs.Grammar.{◌>>=◌, kept_if, number_in, op_in, node_in, key_in, value_in, value_or_null_in, number_or, config_of, shards_of, setup_with, setup_of, put_of, delete_of, read_of, cas_of, giveup_of, deliver_of, lose_of, flush_of, word_named, text_in}
+use Rattle.script_text.specs.Grammar.{◌>>=◌, kept_if, number_in, op_in, node_at, node_in, node_or_none, truth_in, key_in, value_in, value_or_null_in, number_or, config_of, shards_of, setup_with, setup_of, put_of, delete_of, read_of, cas_of, giveup_of, see_of, node_word_of, deliver_of, lose_one_of, lose_between_of, lose_of, only_of, nodes_of, flush_of, settle_of, word_named, text_in}
 use Rattle.script_text.specs.Lines.{Reading, ScriptRead, Accepted, at_first, said, is_blank, line_data, lines, take_line, take_data, take_named, take_setup, take_word, unless_refused, read_from, read_lines}
-use Rattle.script_text.specs.Sound.{fits_table, are_new, IsSound}
+use Rattle.script_text.specs.Sound.{fits_node, fits_only, fits_table, are_new, IsSound}
 
 -- ---- words name nodes of the table
 
@@ -35,8 +35,35 @@ node_below nodes (Some n) node is =
     let h = kept_is (nat_lt n nodes) (node_id n) node is in
     subst (λ (k : NodeId). nat_lt k.0 nodes ≡ true) h.1 h.0
 
+node_at-fits : (name : List ℕ) (setup : SetupState) (line : Data) (node : NodeId) → node_at name setup line ≡ Some node → nat_lt node.0 setup.nodes ≡ true
+node_at-fits name setup line node is = node_below setup.nodes (number_in name line) node is
+
 node_in-fits : (setup : SetupState) (line : Data) (node : NodeId) → node_in setup line ≡ Some node → nat_lt node.0 setup.nodes ≡ true
-node_in-fits setup line node is = node_below setup.nodes (number_in (codes "node") line) node is
+node_in-fits setup line node is = node_at-fits (codes "node") setup line node is
+
+or_none-fits : (setup : SetupState) (stands : Bool) (at to : Option NodeId)
+    → ((n : NodeId) → at ≡ Some n → nat_lt n.0 setup.nodes ≡ true)
+    → (if stands then option_map Some at else Some None) ≡ Some to → fits_node setup to ≡ true
+or_none-fits setup true None to fits is = cc
+or_none-fits setup true (Some n) to fits is =
+    let same : Some n ≡ to = cc in
+    subst (λ o. fits_node setup o ≡ true) same (fits n refl)
+or_none-fits setup false at to fits is =
+    let same : None ≡ to = cc in
+    subst (λ o. fits_node setup o ≡ true) same refl
+
+all-fits : (setup : SetupState) (nodes : Option (List ℕ)) (only : Option (List ℕ))
+    → (nodes >>= λ s. kept_if (list_all (λ n. nat_lt n setup.nodes) s) (Some s)) ≡ Some only → fits_only setup only ≡ true
+all-fits setup None only is = cc
+all-fits setup (Some s) only is =
+    let h = kept_is (list_all (λ n. nat_lt n setup.nodes) s) (Some s) only is in
+    subst (λ o. fits_only setup o ≡ true) h.1 h.0
+
+only_of-fits : (setup : SetupState) (list : Option Data) (only : Option (List ℕ)) → only_of setup list ≡ Some only → fits_only setup only ≡ true
+only_of-fits setup None only is =
+    let same : None ≡ only = cc in
+    subst (λ o. fits_only setup o ≡ true) same refl
+only_of-fits setup (Some d) only is = all-fits setup (nodes_of d) only is
 
 module _ (setup : SetupState) where
   request_with : (what : List ℕ → Op) (op : Option OpId) (node : Option NodeId) (key value : Option (List ℕ)) (test : Bool) (word : ScriptWord)
@@ -85,14 +112,78 @@ module _ (setup : SetupState) where
       let h = kept_is test (GiveUp n o) word is in
       subst (λ w. fits_table setup w ≡ true) h.1 (fits n refl)
 
-  message_of : (what : ℕ → ScriptWord) (message : Option ℕ) (test : Bool) (word : ScriptWord)
-      → ((n : ℕ) → fits_table setup (what n) ≡ true)
-      → (message >>= λ m. kept_if test (what m)) ≡ Some word
+  see_with : (node other : Option NodeId) (up : Option Bool) (test : Bool) (word : ScriptWord)
+      → ((n : NodeId) → node ≡ Some n → nat_lt n.0 setup.nodes ≡ true)
+      → ((n : NodeId) → other ≡ Some n → nat_lt n.0 setup.nodes ≡ true)
+      → (node >>= λ n. other >>= λ o. up >>= λ u. kept_if test (See n o u)) ≡ Some word
       → fits_table setup word ≡ true
-  message_of what None test word fits is = cc
-  message_of what (Some m) test word fits is =
-      let h = kept_is test (what m) word is in
-      subst (λ w. fits_table setup w ≡ true) h.1 (fits m)
+  see_with None other up test word fits fits_too is = cc
+  see_with (Some n) None up test word fits fits_too is = cc
+  see_with (Some n) (Some o) None test word fits fits_too is = cc
+  see_with (Some n) (Some o) (Some u) test word fits fits_too is =
+      let h = kept_is test (See n o u) word is in
+      subst (λ w. fits_table setup w ≡ true) h.1 (rw (fits n refl, fits_too o refl) refl)
+
+  node_word_with : (what : NodeId → ScriptWord) (node : Option NodeId) (test : Bool) (word : ScriptWord)
+      → ((n : NodeId) → node ≡ Some n → fits_table setup (what n) ≡ true)
+      → (node >>= λ n. kept_if test (what n)) ≡ Some word
+      → fits_table setup word ≡ true
+  node_word_with what None test word fits is = cc
+  node_word_with what (Some n) test word fits is =
+      let h = kept_is test (what n) word is in
+      subst (λ w. fits_table setup w ≡ true) h.1 (fits n refl)
+
+  deliver_with : (message : Option ℕ) (to : Option (Option NodeId)) (test : Bool) (word : ScriptWord)
+      → ((n : Option NodeId) → to ≡ Some n → fits_node setup n ≡ true)
+      → (message >>= λ m. to >>= λ n. kept_if test (Deliver m n)) ≡ Some word
+      → fits_table setup word ≡ true
+  deliver_with None to test word fits is = cc
+  deliver_with (Some m) None test word fits is = cc
+  deliver_with (Some m) (Some n) test word fits is =
+      let h = kept_is test (Deliver m n) word is in
+      subst (λ w. fits_table setup w ≡ true) h.1 (fits n refl)
+
+  lose_one_with : (message : Option ℕ) (test : Bool) (word : ScriptWord)
+      → (message >>= λ m. kept_if test (Lose m)) ≡ Some word
+      → fits_table setup word ≡ true
+  lose_one_with None test word is = cc
+  lose_one_with (Some m) test word is =
+      let h = kept_is test (Lose m) word is in
+      subst (λ w. fits_table setup w ≡ true) h.1 refl
+
+  lose_between_with : (from to : Option NodeId) (test : Bool) (word : ScriptWord)
+      → ((n : NodeId) → from ≡ Some n → nat_lt n.0 setup.nodes ≡ true)
+      → ((n : NodeId) → to ≡ Some n → nat_lt n.0 setup.nodes ≡ true)
+      → (from >>= λ f. to >>= λ t. kept_if test (LoseBetween f t)) ≡ Some word
+      → fits_table setup word ≡ true
+  lose_between_with None to test word fits fits_too is = cc
+  lose_between_with (Some f) None test word fits fits_too is = cc
+  lose_between_with (Some f) (Some t) test word fits fits_too is =
+      let h = kept_is test (LoseBetween f t) word is in
+      subst (λ w. fits_table setup w ≡ true) h.1 (rw (fits f refl, fits_too t refl) refl)
+
+  flush_with : (only : Option (Option (List ℕ))) (test : Bool) (word : ScriptWord)
+      → ((o : Option (List ℕ)) → only ≡ Some o → fits_only setup o ≡ true)
+      → (only >>= λ o. kept_if test (Flush o)) ≡ Some word
+      → fits_table setup word ≡ true
+  flush_with None test word fits is = cc
+  flush_with (Some o) test word fits is =
+      let h = kept_is test (Flush o) word is in
+      subst (λ w. fits_table setup w ≡ true) h.1 (fits o refl)
+
+  settle_with : (rounds : Option ℕ) (only : Option (Option (List ℕ))) (test : ℕ → Bool) (word : ScriptWord)
+      → ((o : Option (List ℕ)) → only ≡ Some o → fits_only setup o ≡ true)
+      → (rounds >>= λ r. only >>= λ o. kept_if (test r) (Settle r o)) ≡ Some word
+      → fits_table setup word ≡ true
+  settle_with None only test word fits is = cc
+  settle_with (Some r) None test word fits is = cc
+  settle_with (Some r) (Some o) test word fits is =
+      let h = kept_is (test r) (Settle r o) word is in
+      subst (λ w. fits_table setup w ≡ true) h.1 (fits o refl)
+
+  choose : {A : Type 0} (b : Bool) (x y : Option A) (a : A) (P : A → Type 0) → (x ≡ Some a → P a) → (y ≡ Some a → P a) → (if b then x else y) ≡ Some a → P a
+  choose true x y a P left right is = left is
+  choose false x y a P left right is = right is
 
   put-fits : (line : Data) (word : ScriptWord) → put_of setup line ≡ Some word → fits_table setup word ≡ true
   put-fits line word is = request_with Put (op_in (codes "op") line) (node_in setup line) (key_in line) (value_in line) _ word (node_in-fits setup line) is
@@ -109,12 +200,28 @@ module _ (setup : SetupState) where
   giveup-fits : (line : Data) (word : ScriptWord) → giveup_of setup line ≡ Some word → fits_table setup word ≡ true
   giveup-fits line word is = giveup_with (node_in setup line) (op_in (codes "for") line) _ word (node_in-fits setup line) is
 
-  flush_with : (test : Bool) (word : ScriptWord) → kept_if test Flush ≡ Some word → fits_table setup word ≡ true
-  flush_with test word is = subst (λ w. fits_table setup w ≡ true) (kept_is test Flush word is).1 refl
+  see-fits : (line : Data) (word : ScriptWord) → see_of setup line ≡ Some word → fits_table setup word ≡ true
+  see-fits line word is = see_with (node_in setup line) (node_at (codes "other") setup line) (truth_in (codes "up") line) _ word (node_in-fits setup line) (node_at-fits (codes "other") setup line) is
 
-  choose : {A : Type 0} (b : Bool) (x y : Option A) (a : A) (P : A → Type 0) → (x ≡ Some a → P a) → (y ≡ Some a → P a) → (if b then x else y) ≡ Some a → P a
-  choose true x y a P left right is = left is
-  choose false x y a P left right is = right is
+  node_word-fits : (what : NodeId → ScriptWord) → ((n : NodeId) → fits_table setup (what n) ≡ nat_lt n.0 setup.nodes)
+      → (line : Data) (word : ScriptWord) → node_word_of what setup line ≡ Some word → fits_table setup word ≡ true
+  node_word-fits what same line word is = node_word_with what (node_in setup line) _ word (λ n e. same n ∙ node_in-fits setup line n e) is
+
+  deliver-fits : (line : Data) (word : ScriptWord) → deliver_of setup line ≡ Some word → fits_table setup word ≡ true
+  deliver-fits line word is = deliver_with (number_in (codes "message") line) (node_or_none (codes "node") setup line) _ word
+      (λ n. or_none-fits setup (is_some (get (codes "node") line)) (node_at (codes "node") setup line) n (node_at-fits (codes "node") setup line)) is
+
+  lose-fits : (line : Data) (word : ScriptWord) → lose_of setup line ≡ Some word → fits_table setup word ≡ true
+  lose-fits line word =
+      choose (is_some (get (codes "message") line)) (lose_one_of line) (lose_between_of setup line) word (λ w. fits_table setup w ≡ true)
+      (lose_one_with (number_in (codes "message") line) _ word)
+      (lose_between_with (node_at (codes "from") setup line) (node_at (codes "to") setup line) _ word (node_at-fits (codes "from") setup line) (node_at-fits (codes "to") setup line))
+
+  flush-fits : (line : Data) (word : ScriptWord) → flush_of setup line ≡ Some word → fits_table setup word ≡ true
+  flush-fits line word is = flush_with (only_of setup (get (codes "only") line)) _ word (only_of-fits setup (get (codes "only") line)) is
+
+  settle-fits : (line : Data) (word : ScriptWord) → settle_of setup line ≡ Some word → fits_table setup word ≡ true
+  settle-fits line word is = settle_with (number_in (codes "rounds") line) (only_of setup (get (codes "only") line)) _ word (only_of-fits setup (get (codes "only") line)) is
 
   -- each word of the grammar
   word-fits : (name : List ℕ) (line : Data) (word : ScriptWord) → word_named setup name line ≡ Some word → fits_table setup word ≡ true
@@ -125,9 +232,14 @@ module _ (setup : SetupState) where
       choose (bytes_eq name (codes "read")) (read_of setup line) _ word P (read-fits line word) (
       choose (bytes_eq name (codes "cas")) (cas_of setup line) _ word P (cas-fits line word) (
       choose (bytes_eq name (codes "giveup")) (giveup_of setup line) _ word P (giveup-fits line word) (
-      choose (bytes_eq name (codes "deliver")) (deliver_of line) _ word P (message_of Deliver (number_in (codes "message") line) _ word (λ n. refl)) (
-      choose (bytes_eq name (codes "lose")) (lose_of line) _ word P (message_of Lose (number_in (codes "message") line) _ word (λ n. refl)) (
-      choose (bytes_eq name (codes "flush")) (flush_of line) None word P (flush_with _ word) (λ is. cc))))))))
+      choose (bytes_eq name (codes "see")) (see_of setup line) _ word P (see-fits line word) (
+      choose (bytes_eq name (codes "crash")) (node_word_of Crash setup line) _ word P (node_word-fits Crash (λ n. refl) line word) (
+      choose (bytes_eq name (codes "restart")) (node_word_of Restart setup line) _ word P (node_word-fits Restart (λ n. refl) line word) (
+      choose (bytes_eq name (codes "tick")) (node_word_of Tick setup line) _ word P (node_word-fits Tick (λ n. refl) line word) (
+      choose (bytes_eq name (codes "deliver")) (deliver_of setup line) _ word P (deliver-fits line word) (
+      choose (bytes_eq name (codes "lose")) (lose_of setup line) _ word P (lose-fits line word) (
+      choose (bytes_eq name (codes "flush")) (flush_of setup line) _ word P (flush-fits line word) (
+      choose (bytes_eq name (codes "settle")) (settle_of setup line) None word P (settle-fits line word) (λ is. cc)))))))))))))
 
 -- ---- what the lines so far said is sound
 

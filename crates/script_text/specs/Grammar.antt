@@ -6,12 +6,18 @@
 --     delete, read    op, node, key
 --     cas             op, node, key, expect, value
 --     giveup          node, for
---     deliver, lose   message
---     flush
+--     see             node, other, up
+--     crash, restart  node
+--     tick            node
+--     deliver         message                 node
+--     lose            message, or from and to
+--     flush                                   only
+--     settle          rounds                  only
 --
 -- No other member may stand. Numbers are whole, without sign and below 2^64. Keys and values are texts and mean their
 -- UTF-8 bytes. In a cas `null` stands for no value: `expect` where the key is to have none, `value` to remove the key. A
--- member of an object is found in an object alone, so a line that is none has no word.
+-- member of an object is found in an object alone, so a line that is none has no word. `only` is a list of nodes, each of
+-- which counts once; rounds are 1 to 100.
 --
 -- The shards of a setup are a list of objects:
 --
@@ -19,9 +25,9 @@
 --
 -- Without `shards` there is one shard of all keys, which every node keeps and votes for, with node 0 as its primary.
 use Rattle.std.specs.Prelude.{ℕ, Bool, true, false, ◌&&◌, nat_lt, nat_le, bytes_eq, codes, List, [], ◌∷◌, length, ◌==◌, Option, Some, None, not, is_some, option_map, option_and_then, if◌then◌else◌}
-use Rattle.std.specs.List.{list_any}
+use Rattle.std.specs.List.{list_any, list_all}
 use Rattle.serde_json.specs.Data.{Data, null, boolean, number, string, array, object, Members, Items, no_items, item, no_members, member}
-use Rattle.serde_json.specs.Find.{get, at, as_null, as_number, as_u64, as_str, as_array}
+use Rattle.serde_json.specs.Find.{get, at, as_null, as_bool, as_number, as_u64, as_str, as_array}
 use Rattle.region_map.specs.Keys.{is_key}
 use Rattle.region_map.specs.Nodes.{node_id, with_member}
 use Rattle.region_map.specs.declared.id.NodeId.{NodeId}
@@ -32,7 +38,7 @@ use Rattle.contract_types.specs.declared.config.ShardConfig.{ShardConfig}
 use Rattle.contract_types.specs.Configs.{ConfigState, is_config}
 use Rattle.contract_types.specs.Setup.{SetupState, is_setup, whole}
 use Rattle.script_text.specs.declared.script.ScriptWord.{ScriptWord}
-use Rattle.script_text.specs.declared.script.ScriptWord.TheVariants.{Request, GiveUp, Deliver, Lose, Flush}
+use Rattle.script_text.specs.declared.script.ScriptWord.TheVariants.{Request, GiveUp, See, Crash, Restart, Tick, Deliver, Lose, LoseBetween, Flush, Settle}
 
 infixl 10 ◌>>=◌
 abbrev pub ◌>>=◌ : {A B : Type 0} → Option A → (A → Option B) → Option B
@@ -62,11 +68,22 @@ text_in name line = option_and_then as_str (get name line)
 abbrev pub op_in : List ℕ → Data → Option OpId
 op_in name line = option_map (λ n. record { 0 = n }) (number_in name line)
 
--- a node of the table
-abbrev pub node_in : SetupState → Data → Option NodeId
-node_in setup line = do
-  n ← number_in (codes "node") line
+-- a node of the table, at a name
+abbrev pub node_at : List ℕ → SetupState → Data → Option NodeId
+node_at name setup line = do
+  n ← number_in name line
   kept_if (nat_lt n setup.nodes) (node_id n)
+
+abbrev pub node_in : SetupState → Data → Option NodeId
+node_in setup line = node_at (codes "node") setup line
+
+-- the same where something stands at the name
+abbrev pub node_or_none : List ℕ → SetupState → Data → Option (Option NodeId)
+node_or_none name setup line = if is_some (get name line) then option_map Some (node_at name setup line) else Some None
+
+-- true or false, at a name
+abbrev pub truth_in : List ℕ → Data → Option Bool
+truth_in name line = option_and_then as_bool (get name line)
 
 -- 1 to 64 bytes
 abbrev pub key_in : Data → Option (List ℕ)
@@ -241,18 +258,56 @@ giveup_of setup line = do
   op ← op_in (codes "for") line
   kept_if (has_only (codes "do" ∷ codes "node" ∷ codes "for" ∷ []) line) (GiveUp node op)
 
-abbrev pub deliver_of : Data → Option ScriptWord
-deliver_of line = do
-  message ← number_in (codes "message") line
-  kept_if (has_only (codes "do" ∷ codes "message" ∷ []) line) (Deliver message)
+abbrev pub see_of : SetupState → Data → Option ScriptWord
+see_of setup line = do
+  node ← node_in setup line
+  other ← node_at (codes "other") setup line
+  up ← truth_in (codes "up") line
+  kept_if (has_only (codes "do" ∷ codes "node" ∷ codes "other" ∷ codes "up" ∷ []) line) (See node other up)
 
-abbrev pub lose_of : Data → Option ScriptWord
-lose_of line = do
+-- a word of a node alone
+abbrev pub node_word_of : (NodeId → ScriptWord) → SetupState → Data → Option ScriptWord
+node_word_of word setup line = do
+  node ← node_in setup line
+  kept_if (has_only (codes "do" ∷ codes "node" ∷ []) line) (word node)
+
+abbrev pub deliver_of : SetupState → Data → Option ScriptWord
+deliver_of setup line = do
+  message ← number_in (codes "message") line
+  node ← node_or_none (codes "node") setup line
+  kept_if (has_only (codes "do" ∷ codes "message" ∷ codes "node" ∷ []) line) (Deliver message node)
+
+abbrev pub lose_one_of : Data → Option ScriptWord
+lose_one_of line = do
   message ← number_in (codes "message") line
   kept_if (has_only (codes "do" ∷ codes "message" ∷ []) line) (Lose message)
 
-abbrev pub flush_of : Data → Option ScriptWord
-flush_of line = kept_if (has_only (codes "do" ∷ []) line) Flush
+abbrev pub lose_between_of : SetupState → Data → Option ScriptWord
+lose_between_of setup line = do
+  from ← node_at (codes "from") setup line
+  to ← node_at (codes "to") setup line
+  kept_if (has_only (codes "do" ∷ codes "from" ∷ codes "to" ∷ []) line) (LoseBetween from to)
+
+abbrev pub lose_of : SetupState → Data → Option ScriptWord
+lose_of setup line = if is_some (get (codes "message") line) then lose_one_of line else lose_between_of setup line
+
+-- nodes of the table, or all
+abbrev pub only_of : SetupState → Option Data → Option (Option (List ℕ))
+only_of setup None = Some None
+only_of setup (Some d) = do
+  only ← nodes_of d
+  kept_if (list_all (λ n. nat_lt n setup.nodes) only) (Some only)
+
+abbrev pub flush_of : SetupState → Data → Option ScriptWord
+flush_of setup line = do
+  only ← only_of setup (get (codes "only") line)
+  kept_if (has_only (codes "do" ∷ codes "only" ∷ []) line) (Flush only)
+
+abbrev pub settle_of : SetupState → Data → Option ScriptWord
+settle_of setup line = do
+  rounds ← number_in (codes "rounds") line
+  only ← only_of setup (get (codes "only") line)
+  kept_if (has_only (codes "do" ∷ codes "rounds" ∷ codes "only" ∷ []) line && nat_lt 0 rounds && nat_le rounds 100) (Settle rounds only)
 
 -- the word of a line whose `do` is this name; a setup is none
 abbrev pub word_named : SetupState → List ℕ → Data → Option ScriptWord
@@ -262,6 +317,11 @@ word_named setup name line =
     if bytes_eq name (codes "read") then read_of setup line else
     if bytes_eq name (codes "cas") then cas_of setup line else
     if bytes_eq name (codes "giveup") then giveup_of setup line else
-    if bytes_eq name (codes "deliver") then deliver_of line else
-    if bytes_eq name (codes "lose") then lose_of line else
-    if bytes_eq name (codes "flush") then flush_of line else None
+    if bytes_eq name (codes "see") then see_of setup line else
+    if bytes_eq name (codes "crash") then node_word_of Crash setup line else
+    if bytes_eq name (codes "restart") then node_word_of Restart setup line else
+    if bytes_eq name (codes "tick") then node_word_of Tick setup line else
+    if bytes_eq name (codes "deliver") then deliver_of setup line else
+    if bytes_eq name (codes "lose") then lose_of setup line else
+    if bytes_eq name (codes "flush") then flush_of setup line else
+    if bytes_eq name (codes "settle") then settle_of setup line else None

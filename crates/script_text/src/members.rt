@@ -2,7 +2,7 @@
 ghost use Rattle.std.specs.Prelude.{◌≡◌, List, map, option_map, string_bytes, bytes_eq};
 ghost use Rattle.std.specs.List.{list_all, list_any};
 ghost use Rattle.std.specs.Map.{keys_of};
-ghost use Rattle.script_text.specs.Grammar.{kept_if, number_in, number_or, text_in, op_in, node_in, has_only};
+ghost use Rattle.script_text.specs.Grammar.{kept_if, number_in, number_or, text_in, op_in, node_at, node_in, node_or_none, truth_in, has_only};
 ghost use Rattle.script_text.specs.LineReads.{IsReadAs};
 ghost use Rattle.region_map.specs.Keys.{is_key};
 ghost use Rattle.serde_json.specs.Find.{get};
@@ -47,16 +47,41 @@ pub(crate) fn op_in(name: &str, line: &Value) -> Option<OpId>
     number_in(name, line).map(OpId)
 }
 
-/// The node of a line, if it is one of the table.
-pub(crate) fn node_in(setup: &Setup, line: &Value) -> Option<NodeId>
-    ensures { result ≡ node_in setup.now (view line.now) }
+/// The node at a name, if it is one of the table.
+pub(crate) fn node_at(name: &str, setup: &Setup, line: &Value) -> Option<NodeId>
+    ensures { result ≡ node_at name.now setup.now (view line.now) }
 {
-    let node = number_in("node", line)?;
+    let node = number_in(name, line)?;
     if node < setup.nodes() as u64 {
         Some(NodeId(node as u8))
     } else {
         None
     }
+}
+
+/// The node of a line, if it is one of the table.
+pub(crate) fn node_in(setup: &Setup, line: &Value) -> Option<NodeId>
+    ensures { result ≡ node_in setup.now (view line.now) }
+{
+    node_at("node", setup, line)
+}
+
+/// The node at a name, or none where nothing stands there.
+pub(crate) fn node_or_none(name: &str, setup: &Setup, line: &Value) -> Option<Option<NodeId>>
+    ensures { result ≡ node_or_none name.now setup.now (view line.now) }
+{
+    if line.get(name).is_none() {
+        return Some(None);
+    }
+    let node = node_at(name, setup, line)?;
+    Some(Some(node))
+}
+
+/// True or false, at a name.
+pub(crate) fn truth_in(name: &str, line: &Value) -> Option<bool>
+    ensures { result ≡ truth_in name.now (view line.now) }
+{
+    line.get(name).and_then(Value::as_bool)
 }
 
 /// A text as a key.

@@ -2,7 +2,7 @@
 ghost use Rattle.std.specs.Prelude.{◌≡◌};
 
 use contract_types::Setup;
-use region_map::{Key, NodeId};
+use region_map::{Key, NodeId, NodeSet};
 use register_laws::{Op, OpId};
 use std::marker::Model;
 
@@ -21,16 +21,39 @@ pub enum ScriptWord {
         node: NodeId,
         op: OpId,
     },
-    /// The network brings the message of this number to the node that it is for.
+    /// A node is told that it sees another one, or sees it no longer.
+    See {
+        node: NodeId,
+        other: NodeId,
+        up: bool,
+    },
+    /// A node goes down.
+    Crash(NodeId),
+    /// A node comes up.
+    Restart(NodeId),
+    /// Time passes at a node.
+    Tick(NodeId),
+    /// The network brings the message of this number to a node, or to the node that it is for.
     Deliver {
         message: u64,
+        node: Option<NodeId>,
     },
     /// The network loses the message of this number.
-    Lose {
-        message: u64,
+    Lose(u64),
+    /// The network loses each message from one node to another that was sent so far and was not delivered yet.
+    LoseBetween {
+        from: NodeId,
+        to: NodeId,
     },
-    /// The network brings every waiting message.
-    Flush,
+    /// The network brings every waiting message, among some nodes or all.
+    Flush {
+        only: Option<NodeSet>,
+    },
+    /// So many times each of some nodes ticks that is up, and the network brings every waiting message among them.
+    Settle {
+        rounds: u64,
+        only: Option<NodeSet>,
+    },
 }
 
 /// A word with the number of its line, from 1.

@@ -38,7 +38,7 @@ fn set_of(items: &[Value]) -> Option<NodeSet>
 }
 
 /// The nodes of a list, each of which counts once.
-fn nodes_of(list: &Value) -> Option<NodeSet>
+pub(crate) fn nodes_of(list: &Value) -> Option<NodeSet>
     ensures { result ≡ nodes_of (view list.now) }
 {
     set_of(list.as_array()?)

@@ -67,20 +67,26 @@ fn accepts_scripts(rt: HostRuntime) -> Result<(), Fail> {
     }
     let script = read_script(rt.alloc(), first_write.as_bytes())?;
     assert_eq!(rt; script.items().len(), 2);
-    assert!(rt; matches!(&script.items()[1].word, ScriptWord::Deliver { message: 3 }));
+    assert!(rt;
+        matches!(
+            &script.items()[1].word,
+            ScriptWord::Deliver {
+                message: 3,
+                node: None
+            }
+        )
+    );
     Ok(())
 }
 
 #[test]
 fn refuses_the_first_bad_line(rt: HostRuntime) -> Result<(), Fail> {
     let good = "{\"do\":\"deliver\",\"message\":1}\n";
-    let cases: [&str; 24] = [
-        "{\"do\":\"crash\",\"node\":0}",
+    let cases: [&str; 22] = [
         "{\"do\":\"delete\",\"op\":1,\"node\":0,\"key\":\"a\",\"value\":\"x\"}",
         "{\"do\":\"read\",\"op\":1,\"node\":0}",
         "{\"do\":\"giveup\",\"node\":0,\"op\":1}",
         "{\"do\":\"lose\",\"message\":1,\"from\":0,\"to\":1}",
-        "{\"do\":\"flush\",\"only\":[0]}",
         "{\"do\":\"setup\",\"nodes\":3}",
         "{\"do\":\"put\",\"op\":1,\"node\":1,\"key\":\"a\",\"value\":\"x\"}",
         "{\"do\":\"put\",\"op\":1,\"node\":0,\"key\":\"\",\"value\":\"x\"}",
@@ -120,6 +126,63 @@ fn refuses_the_first_bad_line(rt: HostRuntime) -> Result<(), Fail> {
             told(rt.alloc(), bad).err(),
             Some(ScriptRefused::Line(1, Reason::NotBuilt))
         );
+    }
+    Ok(())
+}
+
+/// Whether a line is a word for a table of three nodes.
+fn is_word(alloc: Global, members: &str) -> Result<bool, Fail> {
+    let text = format!(in alloc; "{{\"do\":\"setup\",\"nodes\":3}}\n{{\"do\":{members}}}")?;
+    Ok(told(alloc, text.as_bytes()).is_ok())
+}
+
+#[test]
+fn accepts_faults_and_rounds(rt: HostRuntime) -> Result<(), Fail> {
+    let accepted: [&str; 11] = [
+        "\"see\",\"node\":0,\"other\":2,\"up\":true",
+        "\"see\",\"node\":1,\"other\":1,\"up\":false",
+        "\"crash\",\"node\":2",
+        "\"restart\",\"node\":2",
+        "\"tick\",\"node\":0",
+        "\"deliver\",\"message\":1,\"node\":2",
+        "\"lose\",\"from\":0,\"to\":2",
+        "\"flush\",\"only\":[]",
+        "\"flush\",\"only\":[2,0,2]",
+        "\"settle\",\"rounds\":1",
+        "\"settle\",\"rounds\":100,\"only\":[1]",
+    ];
+    for members in accepted {
+        assert!(rt; is_word(rt.alloc(), members)?, "{members}");
+    }
+    Ok(())
+}
+
+#[test]
+fn refuses_faults_and_rounds(rt: HostRuntime) -> Result<(), Fail> {
+    let refused: [&str; 20] = [
+        "\"see\",\"node\":0,\"other\":2,\"up\":1",
+        "\"see\",\"node\":0,\"other\":3,\"up\":true",
+        "\"see\",\"node\":0,\"up\":true",
+        "\"see\",\"node\":0,\"other\":2",
+        "\"crash\"",
+        "\"crash\",\"node\":3",
+        "\"restart\",\"node\":0,\"up\":true",
+        "\"tick\",\"node\":null",
+        "\"deliver\",\"message\":1,\"node\":3",
+        "\"deliver\",\"message\":1,\"node\":null",
+        "\"lose\"",
+        "\"lose\",\"from\":0",
+        "\"lose\",\"from\":0,\"to\":3",
+        "\"flush\",\"only\":0",
+        "\"flush\",\"only\":null",
+        "\"flush\",\"only\":[0,3]",
+        "\"settle\"",
+        "\"settle\",\"rounds\":0",
+        "\"settle\",\"rounds\":101",
+        "\"settle\",\"rounds\":1,\"only\":[3]",
+    ];
+    for members in refused {
+        assert!(rt; !is_word(rt.alloc(), members)?, "{members}");
     }
     Ok(())
 }

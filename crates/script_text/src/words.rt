@@ -1,15 +1,21 @@
 //! The words of a script, each with its members.
-ghost use Rattle.std.specs.Prelude.{◌≡◌, IfOk};
-ghost use Rattle.script_text.specs.Grammar.{setup_of, put_of, delete_of, read_of, cas_of, giveup_of, deliver_of, lose_of, flush_of, word_named, key_in, value_in, value_or_null, value_or_null_in};
+ghost use Rattle.std.specs.Prelude.{◌≡◌, nat_lt, option_map};
+ghost use Rattle.std.specs.List.{list_all};
+ghost use Rattle.region_map.specs.declared.id.NodeId.{NodeId};
+ghost use Rattle.script_text.specs.declared.script.ScriptWord.{ScriptWord};
+ghost use Rattle.script_text.specs.Grammar.{setup_of, put_of, delete_of, read_of, cas_of, giveup_of, see_of, node_word_of, deliver_of, lose_one_of, lose_between_of, lose_of, only_of, flush_of, settle_of, word_named, key_in, value_in, value_or_null, value_or_null_in};
 ghost use Rattle.script_text.specs.LineReads.{IsReadAs};
 ghost use Rattle.serde_json.specs.View.{view};
 
 use crate::line_refused::LineRefused;
-use crate::members::{has_only, key_of, node_in, number_in, number_or, op_in, text_in};
-use crate::shards::setup_with;
+use crate::members::{
+    has_only, key_of, node_at, node_in, node_or_none, number_in, number_or, op_in, text_in,
+    truth_in,
+};
+use crate::shards::{nodes_of, setup_with};
 use crate::{Reason, ScriptWord};
 use contract_types::Setup;
-use region_map::Key;
+use region_map::{Key, NodeId, NodeSet};
 use register_laws::{Op, Value as RegisterValue};
 use serde_json::Value;
 use std::alloc::Global;
@@ -168,36 +174,119 @@ fn giveup_of(setup: &Setup, line: &Value) -> Option<ScriptWord>
     Some(ScriptWord::GiveUp { node, op })
 }
 
-/// `deliver`: a message arrives.
-fn deliver_of(line: &Value) -> Option<ScriptWord>
-    ensures { result ≡ deliver_of (view line.now) }
+/// `see`: a node is told whether it sees another one.
+fn see_of(setup: &Setup, line: &Value) -> Option<ScriptWord>
+    ensures { result ≡ see_of setup.now (view line.now) }
 {
-    let message = number_in("message", line)?;
-    if !has_only(&["do", "message"], line) {
+    let node = node_in(setup, line)?;
+    let other = node_at("other", setup, line)?;
+    let up = truth_in("up", line)?;
+    if !has_only(&["do", "node", "other", "up"], line) {
         return None;
     }
-    Some(ScriptWord::Deliver { message })
+    Some(ScriptWord::See { node, other, up })
 }
 
-/// `lose`: a message is lost.
-fn lose_of(line: &Value) -> Option<ScriptWord>
-    ensures { result ≡ lose_of (view line.now) }
+/// The node of `crash`, `restart` and `tick`, which have no other member.
+fn node_alone(setup: &Setup, line: &Value) -> Option<NodeId>
+    ensures { (word : NodeId → ScriptWord) → option_map word result ≡ node_word_of word setup.now (view line.now) }
+{
+    let node = node_in(setup, line)?;
+    if !has_only(&["do", "node"], line) {
+        return None;
+    }
+    Some(node)
+}
+
+/// `deliver`: a message arrives.
+fn deliver_of(setup: &Setup, line: &Value) -> Option<ScriptWord>
+    ensures { result ≡ deliver_of setup.now (view line.now) }
+{
+    let message = number_in("message", line)?;
+    let node = node_or_none("node", setup, line)?;
+    if !has_only(&["do", "message", "node"], line) {
+        return None;
+    }
+    Some(ScriptWord::Deliver { message, node })
+}
+
+/// `lose` with a message: it is lost.
+fn lose_one_of(line: &Value) -> Option<ScriptWord>
+    ensures { result ≡ lose_one_of (view line.now) }
 {
     let message = number_in("message", line)?;
     if !has_only(&["do", "message"], line) {
         return None;
     }
-    Some(ScriptWord::Lose { message })
+    Some(ScriptWord::Lose(message))
+}
+
+/// `lose` with two nodes: what is under way from one to the other is lost.
+fn lose_between_of(setup: &Setup, line: &Value) -> Option<ScriptWord>
+    ensures { result ≡ lose_between_of setup.now (view line.now) }
+{
+    let from = node_at("from", setup, line)?;
+    let to = node_at("to", setup, line)?;
+    if !has_only(&["do", "from", "to"], line) {
+        return None;
+    }
+    Some(ScriptWord::LoseBetween { from, to })
+}
+
+/// `lose`, with a message or with two nodes.
+fn lose_of(setup: &Setup, line: &Value) -> Option<ScriptWord>
+    ensures { result ≡ lose_of setup.now (view line.now) }
+{
+    if line.get("message").is_some() {
+        lose_one_of(line)
+    } else {
+        lose_between_of(setup, line)
+    }
+}
+
+/// The nodes of a list, if all are of the table; none stands for all nodes.
+fn only_of(setup: &Setup, list: Option<&Value>) -> Option<Option<NodeSet>>
+    ensures { result ≡ only_of setup.now (option_map (λ v. view v.now) list.entry) }
+{
+    let Some(list) = list else {
+        return Some(None);
+    };
+    let only = nodes_of(list)?;
+    if !are_nodes(setup, &only) {
+        return None;
+    }
+    Some(Some(only))
+}
+
+/// Whether all of these nodes are of the table.
+fn are_nodes(setup: &Setup, set: &NodeSet) -> bool
+    ensures { result ≡ list_all (λ n. nat_lt n setup.now.nodes) set.now }
+{
+    let nodes = setup.nodes();
+    set.iter().all(|node| node.0 < nodes)
 }
 
 /// `flush`: every waiting message arrives.
-fn flush_of(line: &Value) -> Option<ScriptWord>
-    ensures { result ≡ flush_of (view line.now) }
+fn flush_of(setup: &Setup, line: &Value) -> Option<ScriptWord>
+    ensures { result ≡ flush_of setup.now (view line.now) }
 {
-    if !has_only(&["do"], line) {
+    let only = only_of(setup, line.get("only"))?;
+    if !has_only(&["do", "only"], line) {
         return None;
     }
-    Some(ScriptWord::Flush)
+    Some(ScriptWord::Flush { only })
+}
+
+/// `settle`: ticks and waiting messages, round after round.
+fn settle_of(setup: &Setup, line: &Value) -> Option<ScriptWord>
+    ensures { result ≡ settle_of setup.now (view line.now) }
+{
+    let rounds = number_in("rounds", line)?;
+    let only = only_of(setup, line.get("only"))?;
+    if !(has_only(&["do", "rounds", "only"], line) && 0 < rounds && rounds <= 100) {
+        return None;
+    }
+    Some(ScriptWord::Settle { rounds, only })
 }
 
 /// The word of a line whose `do` is this name.
@@ -224,14 +313,32 @@ pub(crate) fn word_named(
     if name == "giveup" {
         return Ok(giveup_of(setup, line).ok_or(Reason::NotBuilt)?);
     }
+    if name == "see" {
+        return Ok(see_of(setup, line).ok_or(Reason::NotBuilt)?);
+    }
+    if name == "crash" {
+        let node = node_alone(setup, line).ok_or(Reason::NotBuilt)?;
+        return Ok(ScriptWord::Crash(node));
+    }
+    if name == "restart" {
+        let node = node_alone(setup, line).ok_or(Reason::NotBuilt)?;
+        return Ok(ScriptWord::Restart(node));
+    }
+    if name == "tick" {
+        let node = node_alone(setup, line).ok_or(Reason::NotBuilt)?;
+        return Ok(ScriptWord::Tick(node));
+    }
     if name == "deliver" {
-        return Ok(deliver_of(line).ok_or(Reason::NotBuilt)?);
+        return Ok(deliver_of(setup, line).ok_or(Reason::NotBuilt)?);
     }
     if name == "lose" {
-        return Ok(lose_of(line).ok_or(Reason::NotBuilt)?);
+        return Ok(lose_of(setup, line).ok_or(Reason::NotBuilt)?);
     }
     if name == "flush" {
-        return Ok(flush_of(line).ok_or(Reason::NotBuilt)?);
+        return Ok(flush_of(setup, line).ok_or(Reason::NotBuilt)?);
+    }
+    if name == "settle" {
+        return Ok(settle_of(setup, line).ok_or(Reason::NotBuilt)?);
     }
     Err(LineRefused::Reason(Reason::NotBuilt))
 }

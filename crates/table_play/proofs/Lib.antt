@@ -1,3 +1,4 @@
+pub mod Below
 pub mod Complete
 pub mod EachLine
 pub mod Flushes

@@ -1,6 +1,7 @@
 -- What `play` promises: the status, the journal and the bytes that are written, from the words and the bytes that are read.
-use Rattle.std.specs.Prelude.{◌≡◌, ℕ, ◌<◌, ◌≤◌, Bool, true, false, ◌⊎◌, List, [], ◌∷◌, ◌++◌, length, take, codes, bytes_eq, Option, Some, None, IsTrue, if◌then◌else◌}
-use Rattle.contract_types.specs.declared.limits.Which.TheVariants.{ScriptBytes, Numbers}
+use Rattle.std.specs.Prelude.{◌≡◌, ℕ, ◌<◌, ◌≤◌, Bool, true, false, ◌⊎◌, List, [], ◌∷◌, ◌++◌, length, take, codes, bytes_eq, Option, Some, None, IsTrue}
+use Rattle.contract_types.specs.declared.limits.Which.{Which}
+use Rattle.contract_types.specs.declared.limits.Which.TheVariants.{ScriptBytes}
 use Rattle.line_io.specs.Bytes.{Gives, Appends, IsAtEnd}
 use Rattle.line_io.specs.Counts.{rose}
 use Rattle.contract_types.specs.Setup.{SetupState, IsSetup}
@@ -13,7 +14,7 @@ use Rattle.script_text.specs.declared.status.Reason.TheVariants.{NotBuilt}
 use Rattle.script_text.specs.Script.{ScriptState}
 use Rattle.script_text.specs.Lines.{ScriptRead, Accepted, Refused, read_lines}
 use Rattle.report_text.specs.Report.{report, joined, usage_line, read_fault_line, script_line, limit_line}
-use Rattle.table_play.specs.Play.{play_journal, ending_of, greatest_number}
+use Rattle.table_play.specs.Play.{play_journal, ending_of, number_of}
 
 -- the one command
 abbrev pub is_command : List (List ℕ) → Bool
@@ -47,8 +48,9 @@ pub record Outcome : Type 0 where
 abbrev pub only_says : Status → List ℕ → Outcome
 only_says s text = record { status = s; journal = empty_journal; text = text }
 
-abbrev pub status_of : Bool → Status
-status_of met = if met then status.Limit Numbers greatest_number else status.Ok
+abbrev pub status_of : Option Which → Status
+status_of None = status.Ok
+status_of (Some which) = status.Limit which (number_of which)
 
 -- the journal is the play journal of the script, and the text its report
 abbrev pub plays : ScriptState → Outcome
@@ -57,7 +59,7 @@ plays script =
     record {
       status = status_of p.met;
       journal = record { setup = Some script.setup; past = p.past };
-      text = joined (report script.setup script.items p.past p.refused (ending_of p.met));
+      text = joined (report script.setup script.items p.past p.down p.refused (ending_of p.met));
     }
 
 abbrev pub outcome_of_script : ScriptRead → Outcome

@@ -22,9 +22,10 @@ pub fn plays_are_whole()
         ⊎ ((result ≡ OutOfMemory) × (written ≡ held)) }
 {}
 
-/// Each line of an accepted script that is reached before a limit does what its word says: a request, a give-up and
-/// each delivery of a flush add their entry, and a delivery adds its entry or is refused since its message was not
-/// sent. No event is passed over.
+/// Each line of an accepted script that is reached before a limit does what its word says: an event adds its entry,
+/// meets a limit, or is told of a node that is down, or up where it was to come up; a delivery may also be refused
+/// since its message was not sent or is for another node, and does nothing where its message is for a number that is
+/// no node of the table. No other event is passed over.
 pub fn accepted_lines_are_played()
     ensures { (text : List ℕ) (script : ScriptState) → read_lines text ≡ Accepted script
         → AllDo script.setup unplayed script.items }

@@ -1,7 +1,9 @@
 //! The top call.
-ghost use Rattle.std.specs.Prelude.{◌≡◌, ◌⊎◌, ◌≤◌, ℕ, List, [], None, Some, false, map, IfOk};
+ghost use Rattle.std.specs.Prelude.{◌≡◌, ◌⊎◌, ◌≤◌, ℕ, List, [], None, Some, true, false, map, IfOk};
+ghost use Rattle.std.specs.List.{list_all};
 ghost use Rattle.node_core.specs.Journal.{empty_journal};
 ghost use Rattle.script_text.specs.Lines.{Accepted, read_lines};
+ghost use Rattle.script_text.specs.Sound.{fits_table};
 ghost use Rattle.report_text.specs.Report.{report, joined};
 ghost use Rattle.world_core.specs.Answers.{answers_to};
 ghost use Rattle.world_core.specs.GivenUp.{IsGivenUp};
@@ -12,7 +14,7 @@ ghost use Rattle.contract_types.specs.Setup.{SetupState};
 ghost use Rattle.register_laws.specs.declared.operation.OpId.{OpId};
 ghost use Rattle.contract_types.specs.declared.counts.Counts.{Counts};
 ghost use Rattle.exec_types.specs.declared.outcome.Outcome.TheVariants.{NotServing, NoMajority};
-ghost use Rattle.table_play.specs.Play.{ending_of};
+ghost use Rattle.table_play.specs.Play.{ending_of, number_of};
 ghost use Rattle.table_play.specs.Headline.{is_command, IsPlay, IsRunJournal, Ends, Wants, WantsUnsaid, Says, outcome_of_script, plays, status_of};
 
 use crate::events::play_items;
@@ -21,13 +23,14 @@ use contract_types::Which;
 use line_io::{ReadRefused, Sink, Source, read_all};
 use memory::OutOfMemory;
 use node_core::Journal;
+use register_laws::OpId;
 use report_text::{
     Ending, PrintRefused, Refusal, limit_line, print_report, read_fault_line, script_line,
     usage_line,
 };
 use script_text::{Script, ScriptRefused, Status, read_script};
 use std::alloc::Global;
-use world_core::World;
+use world_core::{MOST_ENTRIES, World};
 
 /// The most bytes of a script.
 const MOST_SCRIPT_BYTES: u64 = 16_777_216;
@@ -45,48 +48,72 @@ fn is_command(words: &[&str]) -> bool
     }
 }
 
+/// The number of a limit that an event may meet.
+fn number_of(which: Which) -> u64
+    ensures { result ≡ number_of which }
+{
+    match which {
+        Which::JournalEntries => MOST_ENTRIES,
+        Which::Numbers => GREATEST_NUMBER,
+        Which::ScriptBytes => 0,
+        Which::LineBytes => 0,
+        Which::JournalWeight => 0,
+    }
+}
+
+/// How a run ended that met a limit, or none.
+fn ending_of(met: Option<Which>) -> Ending
+    ensures { result ≡ ending_of met }
+{
+    match met {
+        None => Ending::End,
+        Some(which) => Ending::Limit {
+            which,
+            number: number_of(which),
+        },
+    }
+}
+
+/// The status of a run that met a limit, or none.
+fn status_of(met: Option<Which>) -> Status
+    ensures { result ≡ status_of met }
+{
+    match met {
+        None => Status::Ok,
+        Some(which) => Status::Limit {
+            which,
+            number: number_of(which),
+        },
+    }
+}
+
 /// Prints the report of what was played, and ends with its status.
 fn print<K: Sink>(
     alloc: Global,
     script: &Script,
     journal: &Journal,
+    down: &[OpId],
     refused: &[Refusal],
-    met: bool,
+    met: Option<Which>,
     sink: &mut K,
 ) -> Status
-    ensures { Says (status_of met) (joined (report script.now.setup script.now.items journal.now.past refused.now (ending_of met)))
+    ensures { Says (status_of met) (joined (report script.now.setup script.now.items journal.now.past down.now refused.now (ending_of met)))
         result (K.held sink.old) (K.held sink.new) (K.faults sink.old) (K.faults sink.new)
         ⊎ WantsUnsaid result (K.held sink.old) (K.held sink.new) }
 {
-    let ending = if met {
-        Ending::Limit {
-            which: Which::Numbers,
-            number: GREATEST_NUMBER,
-        }
-    } else {
-        Ending::End
-    };
     match print_report(
         alloc,
         script.setup(),
         script.items(),
         journal,
+        down,
         refused,
-        ending,
+        ending_of(met),
         sink,
     ) {
         Err(PrintRefused::WriteFault) => Status::WriteFault,
         Err(PrintRefused::OutOfMemory) => Status::OutOfMemory,
-        Ok(()) => {
-            if met {
-                Status::Limit {
-                    which: Which::Numbers,
-                    number: GREATEST_NUMBER,
-                }
-            } else {
-                Status::Ok
-            }
-        }
+        Ok(()) => status_of(met),
     }
 }
 
@@ -105,7 +132,8 @@ fn play_script<K: Sink>(
     sink: &mut K,
     journal: &mut Journal,
 ) -> Status
-    requires { journal.old ≡ empty_journal }
+    requires empty { journal.old ≡ empty_journal }
+    requires fits { list_all (λ item. fits_table script.now.setup item.word) script.now.items ≡ true }
     ensures ends { Ends (plays script.now) result journal.new (K.held sink.old) (K.held sink.new) (K.faults sink.old) (K.faults sink.new)
         ⊎ Wants (Accepted script.now) result journal.new (K.held sink.old) (K.held sink.new) }
     ensures run { IsRunJournal journal.new }
@@ -113,12 +141,13 @@ fn play_script<K: Sink>(
     let Ok(mut world) = begin(alloc, script) else {
         return Status::OutOfMemory;
     };
+    let mut down = Vec::new(alloc);
     let mut refused = Vec::new(alloc);
-    let played = play_items(alloc, &mut world, script.items(), &mut refused);
+    let played = play_items(alloc, &mut world, script.items(), &mut down, &mut refused);
     *journal = world.into_journal();
     match played {
         Err(_) => Status::OutOfMemory,
-        Ok(met) => print(alloc, script, journal, &refused, met, sink),
+        Ok(met) => print(alloc, script, journal, &down, &refused, met, sink),
     }
 }
 

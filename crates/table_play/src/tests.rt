@@ -45,7 +45,7 @@ const FOUR: &[u8] =
 
 #[test]
 fn plays_worked_scripts(rt: HostRuntime) -> Result<(), Fail> {
-    let cases: [(&[u8], &[u8]); 17] = [
+    let cases: [(&[u8], &[u8]); 20] = [
         (
             FIRST,
             b"table nodes 3 hash 1 shards 1\nop 1 done none 0.1.0:1\nstory \"a\" 1\nend\n",
@@ -126,6 +126,21 @@ fn plays_worked_scripts(rt: HostRuntime) -> Result<(), Fail> {
             b"{\"do\":\"setup\",\"nodes\":3,\"hash\":1,\"shards\":[{\"replicas\":[0,1,2],\"voters\":[0,1],\"primary\":0}]}\n{\"do\":\"put\",\"op\":1,\"node\":0,\"key\":\"a\",\"value\":\"x\"}\n{\"do\":\"deliver\",\"message\":2}\n{\"do\":\"deliver\",\"message\":3}\n{\"do\":\"deliver\",\"message\":1}\n{\"do\":\"deliver\",\"message\":4}",
             b"table nodes 3 hash 1 shards 1\nop 1 done none 0.1.0:1\nstory \"a\" 1\nend\n",
         ),
+        // a branch that is asked for late is not taken: it is based on a branch that another one followed
+        (
+            b"{\"do\":\"setup\",\"nodes\":1,\"hash\":1}\n{\"do\":\"crash\",\"node\":0}\n{\"do\":\"restart\",\"node\":0}\n{\"do\":\"tick\",\"node\":0}\n{\"do\":\"crash\",\"node\":0}\n{\"do\":\"restart\",\"node\":0}\n{\"do\":\"tick\",\"node\":0}\n{\"do\":\"deliver\",\"message\":2}\n{\"do\":\"tick\",\"node\":0}\n{\"do\":\"deliver\",\"message\":1}\n{\"do\":\"tick\",\"node\":0}\n{\"do\":\"read\",\"op\":1,\"node\":0,\"key\":\"a\"}\n",
+            b"table nodes 1 hash 1 shards 1\nop 1 done none 0.3.0:2\nskipped 4 based_on\nstory \"a\" 1\nend\n",
+        ),
+        // a node that is down takes no operation, and one that is up no restart
+        (
+            b"{\"do\":\"setup\",\"nodes\":3,\"hash\":1}\n{\"do\":\"crash\",\"node\":0}\n{\"do\":\"put\",\"op\":1,\"node\":0,\"key\":\"a\",\"value\":\"x\"}\n{\"do\":\"restart\",\"node\":1}\n",
+            b"table nodes 3 hash 1 shards 1\nop 1 down\nrefused 4 up\nstory \"a\"\nend\n",
+        ),
+        // a message is not brought to a node that it is not for
+        (
+            b"{\"do\":\"setup\",\"nodes\":3,\"hash\":1}\n{\"do\":\"put\",\"op\":1,\"node\":0,\"key\":\"a\",\"value\":\"x\"}\n{\"do\":\"deliver\",\"message\":1,\"node\":2}\n",
+            b"table nodes 3 hash 1 shards 1\nop 1 open\nrefused 3 not_yours\nstory \"a\" 1\nend\n",
+        ),
     ];
     for (script, report) in cases {
         expect(&rt, outcome(rt.alloc(), script, 0, 0), report, 0)?;
@@ -138,7 +153,7 @@ fn tells_faults(rt: HostRuntime) -> Result<(), Fail> {
     let alloc = rt.alloc();
     expect(
         &rt,
-        outcome(alloc, b"{\"do\":\"crash\",\"node\":0}\n", 0, 0),
+        outcome(alloc, b"{\"do\":\"stop\",\"node\":0}\n", 0, 0),
         b"script 1 not_built\n",
         3,
     )?;

@@ -5,4 +5,4 @@ use Rattle.report_text.proofs.stories.texts_of.Given as goal
 
 abbrev pub invariant-loop-entry : goal.invariant-loop-entry
 invariant-loop-entry l =
-    (key : List ℕ) → text_at l.texts key ≡ points_text l.setup l.known key (points (reverse (take l.entry-index l.entries)))
+    (key : List ℕ) → text_at l.texts key ≡ points_text l.table l.known.past key (points (reverse (take l.entry-index l.entries)))

@@ -11,3 +11,7 @@ returns-in-Ok-clause-ends g c =
     let writes' = g.K.Sink.faults c.play_script.new.sink in
     subst (λ (r : ScriptRead). Ends (outcome_of_script r) c.play_script.result c.play_script.new.journal held held' writes writes' ⊎ Wants r c.play_script.result c.play_script.new.journal held held')
     (sym c.in-Ok.ensures.ok) c.play_script.ensures.ends
+
+-- the words of a script that was read fit its table
+pub play_script-requires-clause-fits : goal.play_script-requires-clause-fits
+play_script-requires-clause-fits g c = c.in-Ok.ensures.sound.fits
