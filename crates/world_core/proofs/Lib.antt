@@ -60,6 +60,7 @@ pub mod Setups
 pub mod ShardRoles
 pub mod Single
 pub mod States
+pub mod Stays
 pub mod Steps
 pub mod StoredMoves
 pub mod StoredPaths
@@ -67,5 +68,6 @@ pub mod StoredRuns
 pub mod StoredSetups
 pub mod StoredSteps
 pub mod Table
+pub mod TakenPoints
 pub mod Told
 pub mod Waits

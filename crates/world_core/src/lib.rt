@@ -14,6 +14,7 @@ pub use laws::{
 pub use log_laws::{committed_logs_of_runs, log_messages_of_runs, views_of_runs};
 pub use lose_refused::LoseRefused;
 pub use parts::MOST_ENTRIES;
+pub use path_laws::{answered_points_stay, paths_of_runs};
 pub use point_laws::points_of_runs;
 pub use push_refused::PushRefused;
 pub use world::World;
@@ -25,6 +26,7 @@ pub mod laws;
 pub mod log_laws;
 pub mod lose_refused;
 pub mod parts;
+pub mod path_laws;
 pub mod point_laws;
 pub mod push_refused;
 pub mod waiting_sets;
