@@ -7,6 +7,7 @@ pub mod AskedRunsSteps
 pub mod AskedRunsTables
 pub mod Begun
 pub mod BegunPaths
+pub mod DrawnIds
 pub mod Facts
 pub mod GivingUp
 pub mod Keyed
@@ -36,6 +37,7 @@ pub mod LogWorldMoves
 pub mod LogWorldOuts
 pub mod LogWorldRows
 pub mod LogWorldRuns
+pub mod Makers
 pub mod Nodes
 pub mod OnPath
 pub mod OnPathPoints

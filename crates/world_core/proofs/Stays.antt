@@ -1,5 +1,5 @@
 -- Each branch goes on from the points that were taken before it was registered: so what was answered stays.
-use Rattle.std.proofs.Common.{◌≡◌, ◌⊎◌, ℕ, ◌<◌, ◌&&◌, true, false, cond, List, [], ◌∷◌, ◌++◌, filter, Some, inl, inr, refl, sym, ap, ◌∙◌, subst, append_assoc, sum}
+use Rattle.std.proofs.Common.{◌≡◌, ℕ, ◌<◌, true, false, cond, List, [], ◌∷◌, ◌++◌, filter, Some, inl, inr, refl, sym, ap, ◌∙◌, subst, append_assoc, sum}
 use Rattle.std.proofs.Math.Nat.{mod-lt}
 use Rattle.std.proofs.lemmas.Bool.{ltb-true}
 use Rattle.region_map.specs.declared.id.Id.{Id}
@@ -25,7 +25,7 @@ use Rattle.world_core.specs.Committed.{IsEarlier}
 use Rattle.world_core.specs.Latest.{told_table}
 use Rattle.world_core.specs.Story.{Point, IsIn, points, points_of, same_key, path}
 use Rattle.world_core.specs.DonePoints.{IsDoneAt, StaysIn, StaysInAll, is_before_on}
-use Rattle.world_core.proofs.Asked.{is_keyed, key_path, Asked, IsAsked, history_of, Stale, LedFacts}
+use Rattle.world_core.proofs.Asked.{is_keyed, Asked, IsAsked, history_of, Stale, LedFacts}
 use Rattle.world_core.proofs.AskedRuns.{registered_asked, asked_in}
 use Rattle.world_core.proofs.Registered.{IsRegistered, comes_from, not_stale}
 use Rattle.world_core.proofs.PointBranches.{all_at}

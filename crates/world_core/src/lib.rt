@@ -7,6 +7,7 @@
 
 pub use change_laws::contracts_of_runs;
 pub use envelope::Envelope;
+pub use id_laws::{ids_of_runs, makers_of_runs};
 pub use laws::{
     answers_of_runs, give_ups_of_runs, messages_of_runs, refusals_of_runs, rows_of_runs,
     serving_of_runs, single_answers_of_runs, stories_of_runs,
@@ -22,6 +23,7 @@ pub use world::World;
 pub mod change_laws;
 pub mod envelope;
 pub mod flowing;
+pub mod id_laws;
 pub mod laws;
 pub mod log_laws;
 pub mod lose_refused;
