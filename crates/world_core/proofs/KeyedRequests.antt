@@ -92,7 +92,7 @@ request_cases hashes (x ∷ xs) rows versions op key what =
 same_key_sym : (a b : List ℕ) → same_key a b ≡ false → same_key b a ≡ false
 same_key_sym a b e = nat_list_eq_equiv.symm b a ∙ e
 
-same_key-self : (key : List ℕ) → same_key key key ≡ true
+pub same_key-self : (key : List ℕ) → same_key key key ≡ true
 same_key-self key = nat_list_eq_equiv.refl key
 
 same_id-refl : (i : Id) → same_id i i ≡ true

@@ -119,7 +119,7 @@ each_asked setup past [] all i = tt
 each_asked setup past (x ∷ xs) all zero = all.0
 each_asked setup past (x ∷ xs) all (suc i) = each_asked setup past xs all.1 i
 
-first_life : (hashes place : ℕ) (ss : List ShardConfig) (older : Branches) (b : Id) → knows (first_branches hashes place ss older) b ≡ true → (knows older b ≡ true) ⊎ (b.life ≡ 1)
+pub first_life : (hashes place : ℕ) (ss : List ShardConfig) (older : Branches) (b : Id) → knows (first_branches hashes place ss older) b ≡ true → (knows older b ≡ true) ⊎ (b.life ≡ 1)
 first_life hashes place [] older b known = inl known
 first_life hashes place (s ∷ ss) older b known =
     elim (first_life hashes (place + 1) ss ((first_id place s, first_birth hashes s) ∷ older) b known) [

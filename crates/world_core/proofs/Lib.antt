@@ -7,6 +7,7 @@ pub mod AskedRunsSteps
 pub mod AskedRunsTables
 pub mod Begun
 pub mod BegunPaths
+pub mod DrawnIds
 pub mod Facts
 pub mod GivingUp
 pub mod Keyed
@@ -36,6 +37,7 @@ pub mod LogWorldMoves
 pub mod LogWorldOuts
 pub mod LogWorldRows
 pub mod LogWorldRuns
+pub mod Makers
 pub mod Nodes
 pub mod OnPath
 pub mod OnPathPoints
@@ -60,6 +62,7 @@ pub mod Setups
 pub mod ShardRoles
 pub mod Single
 pub mod States
+pub mod Stays
 pub mod Steps
 pub mod StoredMoves
 pub mod StoredPaths
@@ -67,5 +70,6 @@ pub mod StoredRuns
 pub mod StoredSetups
 pub mod StoredSteps
 pub mod Table
+pub mod TakenPoints
 pub mod Told
 pub mod Waits

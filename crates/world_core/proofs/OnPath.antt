@@ -1,5 +1,5 @@
 -- In every run all points of a key lie on the path of the key's branch, in the table that the journal tells.
-use Rattle.std.proofs.Common.{◌≡◌, ◌⊎◌, ℕ, zero, suc, ◌+◌, ◌≤◌, ◌<◌, Bool, true, false, cond, ◌&&◌, nat_le, List, [], ◌∷◌, ◌++◌, filter, Some, inl, inr, refl, sym, ap, ◌∙◌, subst, arith, sum}
+use Rattle.std.proofs.Common.{◌≡◌, ℕ, zero, suc, ◌+◌, ◌≤◌, ◌<◌, Bool, true, false, cond, ◌&&◌, nat_le, List, [], ◌∷◌, ◌++◌, Some, inl, inr, refl, sym, ap, ◌∙◌, subst, arith, sum}
 use Rattle.std.proofs.Math.Nat.{mod-lt}
 use Rattle.std.proofs.lemmas.Bool.{cases_Bool, cases_eq, both_ways, le-leb, ltb-true}
 use Rattle.std.specs.List.{AllByRecursion}
@@ -24,7 +24,7 @@ use Rattle.contract_types.specs.Tilings.{holders}
 use Rattle.contract_types.specs.Setup.{SetupState, IsSetup}
 use Rattle.contract_types.specs.Tables.{Table, branch_at, first_id, first_birth, first_branches, setup as first_table}
 use Rattle.table_apply.specs.Conditions.{branch_region}
-use Rattle.table_apply.specs.Runs.{change_at, table_at}
+use Rattle.table_apply.specs.Runs.{change_at}
 use Rattle.table_log.specs.Fitting.{changes_of}
 use Rattle.store_api.specs.Versions.{point}
 use Rattle.node_core.specs.declared.journal.Entry.{Entry}
@@ -50,10 +50,10 @@ use Rattle.world_core.proofs.OnPathTables.{tells}
 
 -- ---- the shard of a pair
 
-record ShardOf (ss : List ShardConfig) (h : ℕ) (k : List ℕ) : Type 0 where
-  shard : ShardConfig
-  is_in : IsIn ss shard
-  inside : in_region shard.region h k ≡ true
+pub record ShardOf (ss : List ShardConfig) (h : ℕ) (k : List ℕ) : Type 0 where
+  pub shard : ShardConfig
+  pub is_in : IsIn ss shard
+  pub inside : in_region shard.region h k ≡ true
 
 some_shard : (ss : List ShardConfig) (h : ℕ) (k : List ℕ) → 0 < holders shard_region ss h k → ShardOf ss h k
 some_shard [] h k l = absurd (omega (arith, l))
@@ -63,7 +63,7 @@ some_shard (s ∷ ss) h k l =
       | false ↦ λ _ m. let r = some_shard ss h k m in record { shard = r.shard; is_in = inr r.is_in; inside = r.inside }
     ] refl l
 
-shard_of : (setup : SetupState) → IsSetup setup → (h : ℕ) (k : List ℕ) → h < setup.hashes → ShardOf setup.shards h k
+pub shard_of : (setup : SetupState) → IsSetup setup → (h : ℕ) (k : List ℕ) → h < setup.hashes → ShardOf setup.shards h k
 shard_of setup ok h k l =
     some_shard setup.shards h k (elim (cases_eq (holders shard_region setup.shards h k) 0) [
       | inl e ↦ absurd (ok.config.whole (h, k, l, e))
@@ -101,7 +101,7 @@ count_one (c ∷ newer) older b h k i =
       | false ↦ rest
     ]
 
-one_first : (setup : SetupState) → IsSetup setup → (newer older first last : Branches) (b c : Id × BranchBirth) (h : ℕ) (k : List ℕ) → (first_table setup).history ≡ newer ++ b ∷ older → older ≡ first ++ c ∷ last
+pub one_first : (setup : SetupState) → IsSetup setup → (newer older first last : Branches) (b c : Id × BranchBirth) (h : ℕ) (k : List ℕ) → (first_table setup).history ≡ newer ++ b ∷ older → older ≡ first ++ c ∷ last
     → in_region b.1.region h k ≡ true → in_region c.1.region h k ≡ true → ⊥
 one_first setup ok newer older first last b c h k is there i j =
     let few = one_shard setup ok h k in
@@ -151,7 +151,7 @@ or_older false r e = e
 
 -- ---- the branch of a key
 
-each_asked : (setup : SetupState) (past : List Entry) (log : List (LogEntry Change)) → AllByRecursion (λ (e : LogEntry Change). IsAsked setup past e.change) log → (i : ℕ) → IsAsked setup past (change_at (changes_of log) i)
+pub each_asked : (setup : SetupState) (past : List Entry) (log : List (LogEntry Change)) → AllByRecursion (λ (e : LogEntry Change). IsAsked setup past e.change) log → (i : ℕ) → IsAsked setup past (change_at (changes_of log) i)
 each_asked setup past [] all i = tt
 each_asked setup past (x ∷ xs) all zero = all.0
 each_asked setup past (x ∷ xs) all (suc i) = each_asked setup past xs all.1 i

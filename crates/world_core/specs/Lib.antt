@@ -1,5 +1,6 @@
 pub mod Answers
 pub mod Committed
+pub mod DonePoints
 pub mod GivenUp
 pub mod Latest
 pub mod Pairs
