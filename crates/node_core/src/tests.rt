@@ -101,6 +101,28 @@ fn told(alloc: Global, outputs: &Outputs) -> Result<String, Fail> {
     Ok(text)
 }
 
+/// One step, of which nothing is claimed: so a test of many steps is proved one step at a time.
+fn stepped(
+    alloc: Global,
+    node: Node,
+    input: &Input,
+    brought: Option<Brought>,
+) -> Result<(Node, Outputs), Fail> {
+    Ok(node.step(alloc, input, brought)?)
+}
+
+/// A node of a table as it begins, of which nothing is claimed either.
+fn begun(alloc: Global, setup: &Setup, me: u8) -> Result<Node, Fail>
+    requires { me < setup.now.nodes }
+{
+    Ok(Node::begin(alloc, setup, NodeId(me))?)
+}
+
+/// Whether a step gave what these words say.
+fn says(alloc: Global, outputs: &Outputs, words: &str) -> Result<bool, Fail> {
+    Ok(told(alloc, outputs)?.as_str() == words)
+}
+
 /// The first message that a step of a node gave.
 fn first(alloc: Global, from: u8, outputs: &Outputs) -> Result<Option<Brought>, Fail> {
     for output in outputs.as_slice() {
@@ -118,21 +140,21 @@ fn first(alloc: Global, from: u8, outputs: &Outputs) -> Result<Option<Brought>, 
 fn each_node_serves_its_own_shard(rt: HostRuntime) -> Result<(), Fail> {
     let alloc = rt.alloc();
     let setup = setup(alloc)?;
-    let zero = Node::begin(alloc, &setup, NodeId(0))?;
-    let one = Node::begin(alloc, &setup, NodeId(1))?;
+    let zero = begun(alloc, &setup, 0)?;
+    let one = begun(alloc, &setup, 1)?;
     let low = key(alloc, "a")?;
     assert!(rt; zero.serving(&low) && !one.serving(&low));
     let deliver = Input::Deliver { message: 1 };
-    let (zero, refused) = zero.step(alloc, &put(alloc, 1, "z")?, None)?;
-    assert!(rt; told(alloc, &refused)?.as_str() == "not serving, ");
-    let (zero, asked) = zero.step(alloc, &put(alloc, 2, "a")?, None)?;
-    assert!(rt; told(alloc, &asked)?.as_str() == "part 2 to 1, 0.1.0:1, ");
-    let (one, taken) = one.step(alloc, &deliver, first(alloc, 0, &asked)?)?;
-    assert!(rt; told(alloc, &taken)?.as_str() == "got 2 to 0, ");
-    let (_zero, done) = zero.step(alloc, &deliver, first(alloc, 1, &taken)?)?;
-    assert!(rt; told(alloc, &done)?.as_str() == "done 0.1.0:1, ");
-    let (_one, other) = one.step(alloc, &put(alloc, 3, "z")?, None)?;
-    assert!(rt; told(alloc, &other)?.as_str() == "part 2 to 0, 1.1.1:1, ");
+    let (zero, refused) = stepped(alloc, zero, &put(alloc, 1, "z")?, None)?;
+    assert!(rt; says(alloc, &refused, "not serving, ")?);
+    let (zero, asked) = stepped(alloc, zero, &put(alloc, 2, "a")?, None)?;
+    assert!(rt; says(alloc, &asked, "part 2 to 1, 0.1.0:1, ")?);
+    let (one, taken) = stepped(alloc, one, &deliver, first(alloc, 0, &asked)?)?;
+    assert!(rt; says(alloc, &taken, "got 2 to 0, ")?);
+    let (_zero, done) = stepped(alloc, zero, &deliver, first(alloc, 1, &taken)?)?;
+    assert!(rt; says(alloc, &done, "done 0.1.0:1, ")?);
+    let (_one, other) = stepped(alloc, one, &put(alloc, 3, "z")?, None)?;
+    assert!(rt; says(alloc, &other, "part 2 to 0, 1.1.1:1, ")?);
     Ok(())
 }
 
@@ -224,27 +246,27 @@ fn a_primary_starts_the_branch_that_it_asked_for(rt: HostRuntime) -> Result<(), 
 /// A node of a table of one node alone, as it begins.
 fn only(alloc: Global) -> Result<Node, Fail> {
     let setup = Setup::whole(alloc, 1, 1)?;
-    Ok(Node::begin(alloc, &setup, NodeId(0))?)
+    begun(alloc, &setup, 0)
 }
 
 /// A node after it went down, came up and saw time pass, and what it gave at the tick.
 fn comes_back(alloc: Global, node: Node) -> Result<(Node, Outputs), Fail> {
-    let (node, _) = node.step(alloc, &Input::Crash, None)?;
-    let (node, _) = node.step(alloc, &Input::Restart, None)?;
-    Ok(node.step(alloc, &Input::Tick, None)?)
+    let (node, _) = stepped(alloc, node, &Input::Crash, None)?;
+    let (node, _) = stepped(alloc, node, &Input::Restart, None)?;
+    stepped(alloc, node, &Input::Tick, None)
 }
 
 #[test]
 fn a_node_that_comes_up_goes_on_in_a_branch_of_its_own(rt: HostRuntime) -> Result<(), Fail> {
     let alloc = rt.alloc();
     let (node, asked) = comes_back(alloc, only(alloc)?)?;
-    assert!(rt; told(alloc, &asked)?.as_str() == "needs 0.2.0 to 0, viewed 1, ");
+    assert!(rt; says(alloc, &asked, "needs 0.2.0 to 0, viewed 1, ")?);
     let say = first(alloc, 0, &asked)?;
-    let (node, kept) = node.step(alloc, &Input::Deliver { message: 1 }, say)?;
-    assert!(rt; told(alloc, &kept)?.as_str() == "");
-    let (node, started) = node.step(alloc, &Input::Tick, None)?;
-    assert!(rt; told(alloc, &started)?.as_str() == "needs 0.2.0 to 0, viewed 2, ");
-    let (_node, done) = node.step(alloc, &put(alloc, 1, "a")?, None)?;
-    assert!(rt; told(alloc, &done)?.as_str() == "0.2.0:2, done 0.2.0:2, ");
+    let (node, kept) = stepped(alloc, node, &Input::Deliver { message: 1 }, say)?;
+    assert!(rt; says(alloc, &kept, "")?);
+    let (node, started) = stepped(alloc, node, &Input::Tick, None)?;
+    assert!(rt; says(alloc, &started, "needs 0.2.0 to 0, viewed 2, ")?);
+    let (_node, done) = stepped(alloc, node, &put(alloc, 1, "a")?, None)?;
+    assert!(rt; says(alloc, &done, "0.2.0:2, done 0.2.0:2, ")?);
     Ok(())
 }
