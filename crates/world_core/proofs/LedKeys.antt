@@ -64,7 +64,7 @@ act_points : (what : Op) (step : Stepped) (v : Option Viewed) → points_in what
 act_points what step None = refl
 act_points what step (Some v) = points_in-append what step.outs (output.Viewed v.first v.results ∷ []) ∙ append-nil (points_in what step.outs)
 
-end_points : (input : Input) (step : Stepped) → points_of input (end_step step).outs ≡ points_of input step.outs
+pub end_points : (input : Input) (step : Stepped) → points_of input (end_step step).outs ≡ points_of input step.outs
 end_points (Request op key what) step =
     points_in-append what (act step).outs (decide_all_outs (act step).node.executions)
     ∙ ap (λ (l : List Point). points_in what (act step).outs ++ l) (decide_points what (act step).node.executions) ∙ append-nil (points_in what (act step).outs)

@@ -55,12 +55,14 @@ pub mod Refusals
 pub mod RegisterStory
 pub mod Registered
 pub mod Requesting
+pub mod RowSteps
 pub mod Runs
 pub mod Setups
 pub mod ShardRoles
 pub mod Single
 pub mod States
 pub mod Steps
+pub mod StoredFirsts
 pub mod StoredMoves
 pub mod StoredPaths
 pub mod StoredRuns

@@ -8,14 +8,15 @@
 pub use change_laws::contracts_of_runs;
 pub use envelope::Envelope;
 pub use laws::{
-    answers_of_runs, give_ups_of_runs, messages_of_runs, refusals_of_runs, rows_of_runs,
-    serving_of_runs, single_answers_of_runs, stories_of_runs,
+    answers_of_runs, give_ups_of_runs, messages_of_runs, refusals_of_runs, serving_of_runs,
+    single_answers_of_runs, stories_of_runs,
 };
 pub use log_laws::{committed_logs_of_runs, log_messages_of_runs, views_of_runs};
 pub use lose_refused::LoseRefused;
 pub use parts::MOST_ENTRIES;
 pub use point_laws::points_of_runs;
 pub use push_refused::PushRefused;
+pub use row_laws::rows_of_runs;
 pub use world::World;
 
 pub mod change_laws;
@@ -27,5 +28,6 @@ pub mod lose_refused;
 pub mod parts;
 pub mod point_laws;
 pub mod push_refused;
+pub mod row_laws;
 pub mod waiting_sets;
 pub mod world;

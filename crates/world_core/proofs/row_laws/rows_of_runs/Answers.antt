@@ -1,11 +1,11 @@
-use Rattle.world_core.proofs.StoredRuns.{has_version, row_is, served_row}
-use Rattle.world_core.proofs.laws.rows_of_runs.Goals as goal
+use Rattle.world_core.proofs.StoredRuns.{has_version, stored_row, served_row}
+use Rattle.world_core.proofs.row_laws.rows_of_runs.Goals as goal
 
 pub returns-clause-versions : goal.returns-clause-versions
 returns-clause-versions c = has_version
 
 pub returns-clause-rows : goal.returns-clause-rows
-returns-clause-rows c = row_is
+returns-clause-rows c = stored_row
 
 pub returns-clause-served : goal.returns-clause-served
 returns-clause-served c = served_row
