@@ -462,6 +462,7 @@ led_facts setup ok past run key shard i inside =
       birth = l.led.birth;
       registered = l.led.registered;
       inside = l.led.inside;
+      initial = l.led.initial;
       points_on = l.led.points_on;
       asked = l.asked;
     }

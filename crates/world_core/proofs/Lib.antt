@@ -63,6 +63,7 @@ pub mod Single
 pub mod States
 pub mod Steps
 pub mod StoredFirsts
+pub mod StoredLaws
 pub mod StoredMoves
 pub mod StoredPaths
 pub mod StoredRuns

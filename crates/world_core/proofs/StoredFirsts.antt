@@ -1,8 +1,9 @@
 -- The path of a branch with which a shard begins has the points of that branch alone. At a node that executes it these are all
 -- points of the key.
-use Rattle.std.proofs.Common.{◌≡◌, ℕ, ◌+◌, ◌≤◌, ◌<◌, Bool, true, false, cond, ◌&&◌, nat_lt, nat_le, List, [], ◌∷◌, Option, Some, None, inl, inr, refl, sym, ap, ◌∙◌, subst, arith, append-nil, sum}
+use Rattle.std.proofs.Common.{◌≡◌, ℕ, ◌+◌, ◌≤◌, ◌<◌, Bool, true, false, cond, ◌&&◌, ◌||◌, nat_lt, nat_le, List, [], ◌∷◌, Option, Some, None, inl, inr, refl, sym, ap, ◌∙◌, subst, arith, append-nil, sum}
 use Rattle.std.proofs.Math.Nat.{mod-lt}
-use Rattle.std.proofs.lemmas.Bool.{cases_Bool, both_ways, cond_both, and_parts, eqb-true, false_from_ne_true, ltb-true, le-leb}
+use Rattle.std.proofs.lemmas.Bool.{false≢true, cases_Bool, both_ways, cond_both, and_parts, eqb-true, false_from_ne_true, ltb-true, le-leb}
+use Rattle.std.specs.List.{list_any}
 use Rattle.region_map.specs.declared.id.Id.{Id}
 use Rattle.region_map.specs.Equal.{id_decides}
 use Rattle.region_map.specs.Keys.{hash_of}
@@ -19,7 +20,7 @@ use Rattle.contract_types.specs.Setup.{SetupState, IsSetup, is_hashes}
 use Rattle.contract_types.specs.Tables.{first_id, first_birth, first_branches}
 use Rattle.table_apply.proofs.Tables.{registered}
 use Rattle.exec_types.specs.Sessions.{same_id}
-use Rattle.store_api.specs.Rows.{row_of}
+use Rattle.store_api.specs.Rows.{has_key, row_of}
 use Rattle.store_api.specs.Versions.{point}
 use Rattle.primary_exec.specs.Execution.{Execution}
 use Rattle.node_core.specs.declared.journal.Entry.{Entry}
@@ -75,25 +76,44 @@ without_rest a d i c r ea ei er = (λ j. cond (ea j && (ei j && c)) true (er j))
     itself true = refl
     itself false = refl
 
--- in the table of a node, a point lies on the path of a version of such a branch where it is one of the branch up to its timestamp
+-- the birth of such a branch, in the table of a node
+pub record IsBegun (setup : SetupState) (past : List Entry) (n : ℕ) (key : List ℕ) (b : Id) : Type 0 where
+  pub birth : BranchBirth
+  pub registered : birth_of (history_of setup n past) b ≡ Some birth
+  pub inside : in_region birth.region (hash_of key setup.hashes) key ≡ true
+  pub initial : birth.initial ≡ 0
+  pub origin : origin_at birth (hash_of key setup.hashes) key ≡ zero
+
+pub is_begun : (setup : SetupState) → IsSetup setup → (past : List Entry) → IsRun setup past → (n : ℕ) (key : List ℕ) (b : Id) → begun_branch setup key ≡ Some b → IsBegun setup past n key b
+is_begun setup ok past run n key b begun =
+    let h : ℕ = hash_of key setup.hashes in
+    let first : Branches = history_of setup n [] in
+    let reg = registered setup [] 0 h key b begun in
+    let plain = plain_births setup.hashes 0 setup.shards [] b reg.0 (λ i c e. absurd (cc e)) reg.1 in
+    let longer = history_grows setup past [] run (record { later = past; is = sym (append-nil past) }) n in
+    let hist = is_history setup past run n in
+    record {
+      birth = reg.0;
+      registered =
+          ap (λ (l : Branches). birth_of l b) longer.is
+          ∙ birth_longer longer.newer first b (newer_apart longer.newer first b (subst IsHistory longer.is hist) (birth_known first b reg.0 reg.1)) ∙ reg.1;
+      inside = reg.2;
+      initial = plain.0;
+      origin = plain.1 h key;
+    }
+
+-- a point lies on the path of a version of such a branch where it is one of the branch up to its timestamp
 pub on_begun : (setup : SetupState) → IsSetup setup → (past : List Entry) → IsRun setup past → (n : ℕ) (key : List ℕ) (b : Id) (v : Version) (p : Point) → begun_branch setup key ≡ Some b → v.branch ≡ Some b
     → is_on (history_of setup n past) (hash_of key setup.hashes) key v (point p.branch p.timestamp) ≡ is_up_to v p
 on_begun setup ok past run n key b v p begun of =
     let h : ℕ = hash_of key setup.hashes in
     let x : Version = point p.branch p.timestamp in
     let bs : Branches = history_of setup n past in
-    let first : Branches = history_of setup n [] in
-    let reg = registered setup [] 0 h key b begun in
-    let plain = plain_births setup.hashes 0 setup.shards [] b reg.0 (λ i c e. absurd (cc e)) reg.1 in
-    let longer = history_grows setup past [] run (record { later = past; is = sym (append-nil past) }) n in
-    let hist = is_history setup past run n in
-    let known : birth_of bs b ≡ Some reg.0 =
-    ap (λ (l : Branches). birth_of l b) longer.is
-    ∙ birth_longer longer.newer first b (newer_apart longer.newer first b (subst IsHistory longer.is hist) (birth_known first b reg.0 reg.1)) ∙ reg.1 in
-    let start : nat_le reg.0.initial p.timestamp ≡ true = let zero_is = plain.0 in le-leb reg.0.initial p.timestamp (omega (arith, zero_is)) in
-    let rest : is_on bs h key (origin_at reg.0 h key) x ≡ false = ap (λ (o : Version). is_on bs h key o x) (plain.1 h key) ∙ on_zero bs h key x in
-    inside_birth bs h key b reg.0 v x hist known of reg.2
-    ∙ without_rest (id_eq p.branch b) (same_id b p.branch) (nat_le reg.0.initial p.timestamp) (nat_le p.timestamp v.timestamp) (is_on bs h key (origin_at reg.0 h key) x) (same_turned p.branch b) start rest
+    let i = is_begun setup ok past run n key b begun in
+    let start : nat_le i.birth.initial p.timestamp ≡ true = let zero_is = i.initial in le-leb i.birth.initial p.timestamp (omega (arith, zero_is)) in
+    let rest : is_on bs h key (origin_at i.birth h key) x ≡ false = ap (λ (o : Version). is_on bs h key o x) i.origin ∙ on_zero bs h key x in
+    inside_birth bs h key b i.birth v x (is_history setup past run n) i.registered of i.inside
+    ∙ without_rest (id_eq p.branch b) (same_id b p.branch) (nat_le i.birth.initial p.timestamp) (nat_le p.timestamp v.timestamp) (is_on bs h key (origin_at i.birth h key) x) (same_turned p.branch b) start rest
     ∙ ap (λ (o : Option Id). is_branch o p.branch && nat_le p.timestamp v.timestamp) (sym of)
 
 -- ---- the node that leads a key
@@ -128,6 +148,15 @@ leader_below setup ok n h k l =
 pub some_node : (setup : SetupState) → IsSetup setup → 0 < setup.nodes
 some_node setup ok =
     ltb-true 0 setup.nodes (and_parts (nat_lt 0 setup.nodes) (nat_le setup.nodes 7) (and_parts (nat_lt 0 setup.nodes && nat_le setup.nodes 7) (is_hashes setup.hashes) ok.fits).0).0
+
+-- who leads a shard of the key
+pub leads_key : (n hashes : ℕ) (key : List ℕ) (ss : List ShardConfig) → list_any (λ s. is_led n s && has_key s.region hashes key) ss ≡ true → 1 ≤ led n ss (hash_of key hashes) key
+leads_key n hashes key [] e = absurd (false≢true e)
+leads_key n hashes key (s ∷ ss) e =
+    elim (is_led n s && has_key s.region hashes key) as (λ c. (c || list_any (λ t. is_led n t && has_key t.region hashes key) ss) ≡ true → 1 ≤ cond c 1 0 + led n ss (hash_of key hashes) key) [
+      | true ↦ λ _. omega arith
+      | false ↦ λ r. let more = leads_key n hashes key ss r in omega (arith, more)
+    ] e
 
 pub keyed_node : (setup : SetupState) → IsSetup setup → (past : List Entry) → IsRun setup past → (n : ℕ) → KeyedNode setup past n (holding (state setup n past))
 keyed_node setup ok past run n = (keyed_nodes setup ok (contracts_stay setup ok) past run).1 n

@@ -46,7 +46,7 @@ pub record IsTaken (ps : List Point) (branch : Id) (at : ℕ) : Type 0 where
   pub time : by.timestamp ≡ at
 
 abbrev pub IsReachedBy : List Point → Option Id → ℕ → Type 0
-IsReachedBy ps None at = Unit {0}
+IsReachedBy ps None at = at ≡ 0
 IsReachedBy ps (Some branch) at = (at ≡ 0) ⊎ IsTaken ps branch at
 
 -- a version stands at timestamp 0 or at a point of its branch
@@ -55,7 +55,7 @@ IsReached ps v = IsReachedBy ps v.branch v.timestamp
 
 -- at timestamp 0 each version is reached
 pub reached_zero : (ps : List Point) (branch : Option Id) (at : ℕ) → at ≡ 0 → IsReachedBy ps branch at
-reached_zero ps None at e = tt
+reached_zero ps None at e = e
 reached_zero ps (Some branch) at e = inl e
 
 -- ---- one more point, above all of its branch
@@ -77,7 +77,7 @@ last_above ps q r = record { above = go ps r }
         ]
 
 pub reached-more : (ps more : List Point) (branch : Option Id) (at : ℕ) → IsReachedBy ps branch at → IsReachedBy (ps ++ more) branch at
-reached-more ps more None at h = tt
+reached-more ps more None at h = h
 reached-more ps more (Some branch) at h =
     elim h [
       | inl e ↦ inl e

@@ -1,9 +1,9 @@
 -- In every run each key has, at each node, the row that the path of its version leaves.
-use Rattle.std.proofs.Common.{◌≡◌, ◌⊎◌, ℕ, zero, suc, ◌+◌, ◌-◌, ◌≤◌, ◌<◌, ◌==◌, max, min, Bool, true, false, ◌&&◌, nat_le, List, [], ◌∷◌, ◌++◌, map, Option, Some, None, is_some, inl, inr, refl, sym, ap, ◌∙◌, subst, arith, append-nil, sum}
+use Rattle.std.proofs.Common.{◌≡◌, ℕ, zero, suc, ◌+◌, ◌-◌, ◌≤◌, ◌<◌, ◌==◌, max, min, true, false, List, [], ◌∷◌, ◌++◌, map, Option, Some, None, inl, inr, refl, sym, ap, ◌∙◌, subst, arith, append-nil, sum}
 use Rattle.std.proofs.Math.Nat.{mod-lt}
-use Rattle.std.proofs.lemmas.Bool.{cond_both, cases_eq, eqb-true, false_from_ne_true}
+use Rattle.std.proofs.lemmas.Bool.{cond_both, eqb-true, false_from_ne_true}
 use Rattle.std.specs.Prelude.{slice_get}
-use Rattle.std.specs.List.{AllByRecursion, flat_map, list_any}
+use Rattle.std.specs.List.{AllByRecursion, flat_map}
 use Rattle.region_map.specs.declared.id.Id.{Id}
 use Rattle.region_map.specs.declared.id.NodeId.{NodeId}
 use Rattle.region_map.specs.Keys.{hash_of}
@@ -12,10 +12,6 @@ use Rattle.region_map.specs.Nodes.{node_id, has}
 use Rattle.raft_vote.specs.declared.message.RaftMessage.{RaftMessage}
 use Rattle.raft_node.specs.declared.input.RaftInput.TheVariants as raft
 use Rattle.branch_history.specs.declared.version.Version.{Version}
-use Rattle.branch_history.specs.Paths.{Branches, is_on}
-use Rattle.branch_history.specs.Histories.{IsHistory}
-use Rattle.branch_history.proofs.Births.{none_on}
-use Rattle.branch_history.proofs.Grown.{points_stay}
 use Rattle.register_laws.specs.declared.operation.OpId.{OpId}
 use Rattle.register_laws.specs.declared.operation.Op.{Op}
 use Rattle.contract_types.specs.declared.ack.Ack.{Ack}
@@ -53,34 +49,26 @@ use Rattle.node_core.specs.declared.journal.Entry.{Entry}
 use Rattle.node_core.specs.Parts.{is_for, give_up_all_outs, decide_all_outs}
 use Rattle.node_core.specs.Saying.{Roles as Said, is_following_under, says_to, ack_under, acknowledgements_to, acknowledges, says_under, says_all}
 use Rattle.node_core.specs.Starting.{Starting, current_of, due, start_one, start_each}
-use Rattle.node_core.specs.Step.{NodeState, Stepped, silent, request_row, give_up, take_got, leads, coordinates, propose_all, raft_outs, with_proposals, roles_of, says_now, with_log, tick_row, message_row, is_well_formed, brought_row, input_row, act_on, act, decide_step, end_step, node_step, serves}
+use Rattle.node_core.specs.Step.{NodeState, Stepped, silent, request_row, give_up, take_got, leads, coordinates, propose_all, raft_outs, with_proposals, roles_of, says_now, with_log, tick_row, message_row, is_well_formed, brought_row, input_row, act_on, act, decide_step, end_step, node_step}
 use Rattle.world_core.specs.declared.envelope.Envelope.{Envelope}
-use Rattle.world_core.specs.Latest.{told_table}
 use Rattle.world_core.specs.Rising.{AreRising}
 use Rattle.world_core.specs.Run.{sent_by, sent, opened, brought, state, IsRun}
-use Rattle.world_core.specs.Story.{Point, IsIn, points_in, points_of, points, same_key, path}
-use Rattle.world_core.specs.Stored.{row_after, is_on_path_to, path_row}
-use Rattle.world_core.proofs.Asked.{is_keyed, history_of}
+use Rattle.world_core.specs.Story.{Point, IsIn, points_in, points_of, points}
 use Rattle.world_core.proofs.AskedRuns.{contracts_stay}
-use Rattle.world_core.proofs.Begun.{begun_branch, is_branch}
-use Rattle.world_core.proofs.KeyedRoles.{asking_region, led, one_role, askings_led}
+use Rattle.world_core.proofs.Begun.{begun_branch}
+use Rattle.world_core.proofs.KeyedRoles.{asking_region, one_role, askings_led}
 use Rattle.world_core.proofs.KeyedRuns.{some_hash}
 use Rattle.world_core.proofs.KeyedStarts.{placed_all, started_outside}
-use Rattle.world_core.proofs.LedHistories.{some_inner}
 use Rattle.world_core.proofs.LedKeys.{end_points}
 use Rattle.world_core.proofs.LedRoles.{IsAsking, Roles, asked_from, roles_row, some_there}
 use Rattle.world_core.proofs.LedRows.{kept}
-use Rattle.world_core.proofs.LedRuns.{row_is, run_roles, is_history}
+use Rattle.world_core.proofs.LedRuns.{row_is, run_roles}
 use Rattle.world_core.proofs.LogWorldRuns.{moving}
-use Rattle.world_core.proofs.Nodes.{some_holds}
-use Rattle.world_core.proofs.OnPath.{all_on_path}
-use Rattle.world_core.proofs.OnPathTables.{Tells as Told, tells}
-use Rattle.world_core.proofs.PointBranches.{all_at, all_from}
+use Rattle.world_core.proofs.PointBranches.{all_at}
 use Rattle.world_core.proofs.PointRuns.{rise}
 use Rattle.world_core.proofs.Setups.{exec_region, following_region}
-use Rattle.world_core.proofs.StoredPaths.{is_up_to, is_keyed_to, row_at, filter-same, IsAbove, last_above, Grows, grows_same}
-use Rattle.world_core.proofs.StoredMoves.{kept_row}
-use Rattle.world_core.proofs.StoredFirsts.{on_begun, leading, leader_below, some_node, keyed_node, first_row}
+use Rattle.world_core.proofs.StoredPaths.{row_at, IsAbove, last_above, Grows, grows_same}
+use Rattle.world_core.proofs.StoredFirsts.{keyed_node, first_row}
 use Rattle.world_core.proofs.StoredSteps.{all_step, all_weaker, all_append, IsSessionOf, Runs, NodeKept, SentTells, sent_grown, OutTells, other_kept, follows_outside, request_kept, stream_kept}
 use Rattle.world_core.proofs.StoredSetups.{Away, begin_kept}
 
@@ -407,102 +395,3 @@ run_kept setup ok (e ∷ past) run =
           (λ same. subst (λ (i : ℕ). StateKept setup more i (moving setup past e i)) (eqb-true e.node.0 m same) k.state)
           (λ _. let t : NodeState = state setup m past in other_kept (Away setup m) setup ps more t.rows t.versions t.executions t.followings k.grows (r.nodes m));
     }
-
--- ---- what the law says
-
--- each key has a version
-pub has_version : (setup : SetupState) → IsSetup setup → (past : List Entry) → IsRun setup past → (n : ℕ) (key : List ℕ) → is_some (version_of (state setup n past).versions key) ≡ true
-has_version setup ok past run n key =
-    let f = (keyed_node setup ok past run n).filled in
-    ap (λ c. is_some (value_at (state setup n past).versions.pieces (hash_of key c) key)) f.hashes_are ∙ f.some (hash_of key setup.hashes) key (mod-lt (sum key) (some_hash setup ok))
-
-module _ (setup : SetupState) (ok : IsSetup setup) (past : List Entry) (run : IsRun setup past) (n : ℕ) (key : List ℕ) where
-  abbrev h : ℕ
-  h = hash_of key setup.hashes
-
-  abbrev s : NodeState
-  s = state setup n past
-
-  abbrev all : List Point
-  all = points past
-
-  abbrev is_told : Version → Point → Bool
-  is_told version p = is_on (told_table setup past).history h key version (point p.branch p.timestamp)
-
-  module _ (version : Version) (stands : version_of s.versions key ≡ Some version) where
-    -- at the node that leads the key all points of the key are on the path
-    led_row : 1 ≤ led n setup.shards h key → row_of s.rows key ≡ path_row setup past key version
-    led_row here =
-        let f = keyed_node setup ok past run n in
-        let l = leading setup ok past run n key here in
-        let t = tells setup past run n (leader_below setup ok n h key here) in
-        let same : l.version ≡ version = some_inner l.version version (sym l.version_is ∙ ap (λ c. value_at s.versions.pieces (hash_of key c) key) (sym f.filled.hashes_are) ∙ stands) in
-        let on = λ (p : Point) (i : IsIn all p) (keyed : is_keyed key p ≡ true).
-        ap (λ (bs : Branches). is_on bs h key version (point p.branch p.timestamp)) (t.told ∙ t.is)
-        ∙ points_stay t.newer (history_of setup n past) h key version (point p.branch p.timestamp) (subst IsHistory t.is (is_history setup past run t.n))
-        (subst (λ (v : Version). is_on (history_of setup n past) h key v (point p.branch p.timestamp) ≡ true) same (l.points_on p i keyed)) in
-        f.store key here
-        ∙ ap (row_after None)
-        (filter-same (IsIn all) (is_keyed key) (is_on_path_to setup (told_table setup past) key version) (λ p i. test p (on p i)) all (all_from (IsIn all) all (λ p i. i)))
-      where
-        test : (p : Point) → (is_keyed key p ≡ true → is_told version p ≡ true) → is_keyed key p ≡ is_on_path_to setup (told_table setup past) key version p
-        test p on =
-            elim (same_key p.key key) as (λ b. same_key p.key key ≡ b → b ≡ (b && is_told version p)) [
-              | true ↦ λ e. sym (on e)
-              | false ↦ λ _. refl
-            ] refl
-
-    -- at any other node those of the branch with which its shard begins
-    other_row : Away setup n key → row_of s.rows key ≡ path_row setup past key version
-    other_row away =
-        let k = ((run_kept setup ok past run).nodes n).kept key away in
-        let same : k.version ≡ version = some_inner k.version version (sym k.stands ∙ stands) in
-        let t = tells setup past run 0 (some_node setup ok) in
-        let first = subst (λ (v : Version). (v.branch ≡ None) ⊎ (v.branch ≡ begun_branch setup key)) same k.first in
-        kept_row setup all s.rows s.versions key version k stands
-        ∙ ap (row_after None)
-        (filter-same (IsIn all) (is_keyed_to key version) (is_on_path_to setup (told_table setup past) key version) (λ p i. ap (λ c. same_key p.key key && c) (on t first p)) all
-        (all_from (IsIn all) all (λ p i. i)))
-      where
-        without : version.branch ≡ None → (p : Point) → is_up_to version p ≡ is_told version p
-        without none p =
-            ap (λ (o : Option Id). is_branch o p.branch && nat_le p.timestamp version.timestamp) none
-            ∙ sym (none_on (told_table setup past).history h key version (point p.branch p.timestamp) none)
-
-        on : Told setup past 0 → (version.branch ≡ None) ⊎ (version.branch ≡ begun_branch setup key) → (p : Point) → is_up_to version p ≡ is_told version p
-        on t (inl none) p = without none p
-        on t (inr is) p =
-            elim (begun_branch setup key) as (λ o. begun_branch setup key ≡ o → is_up_to version p ≡ is_told version p) [
-              | None ↦ λ e. without (is ∙ e) p
-              | Some b ↦ λ e.
-                  sym (on_begun setup ok past run t.n key b version p e (is ∙ e)) ∙ ap (λ (bs : Branches). is_on bs h key version (point p.branch p.timestamp)) (sym t.told)
-            ] refl
-
-    path_is : row_of s.rows key ≡ path_row setup past key version
-    path_is =
-        elim (cases_eq (led n setup.shards h key) 0) [
-          | inl none ↦ other_row none
-          | inr some ↦ led_row (positive (led n setup.shards h key) some)
-        ]
-      where
-        positive : (m : ℕ) → (m ≡ 0 → ⊥) → 1 ≤ m
-        positive zero f = absurd (f refl)
-        positive (suc m) f = omega arith
-
-  -- at the node that serves the key the row is what all points on the path of the key's branch leave
-  served_path : serves s key ≡ true → row_of s.rows key ≡ row_after None (path setup past key)
-  served_path served =
-      let f = keyed_node setup ok past run n in
-      let some : list_any (is_for setup.hashes key) s.executions ≡ true = ap (λ (v : SetupState). list_any (is_for v.hashes key) s.executions) (sym f.begun) ∙ served in
-      let held = some_holds setup.hashes key s.executions some in
-      let leads = f.leads h key in
-      f.store key (omega (arith, held, leads)) ∙ ap (row_after None) (sym (all_on_path setup ok past run key))
-
--- the row of a key is what the path of its version leaves
-pub stored_row : (setup : SetupState) → IsSetup setup → (past : List Entry) → IsRun setup past → (n : ℕ) (key : List ℕ) (version : Version) → version_of (state setup n past).versions key ≡ Some version
-    → row_of (state setup n past).rows key ≡ path_row setup past key version
-stored_row setup ok past run n key version stands = path_is setup ok past run n key version stands
-
-pub served_row : (setup : SetupState) → IsSetup setup → (past : List Entry) → IsRun setup past → (n : ℕ) (key : List ℕ) → serves (state setup n past) key ≡ true
-    → row_of (state setup n past).rows key ≡ row_after None (path setup past key)
-served_row setup ok past run n key served = served_path setup ok past run n key served

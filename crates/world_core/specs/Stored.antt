@@ -1,13 +1,16 @@
--- The row that the operations on the path of a version leave a key.
-use Rattle.std.specs.Prelude.{ℕ, Bool, ◌&&◌, List, [], ◌∷◌, filter, Option, Some, None, if◌then◌else◌}
+-- The row that the operations on the path of a version leave a key, and which versions a key may have.
+use Rattle.std.specs.Prelude.{◌≡◌, ◌≤◌, ℕ, Bool, true, ◌&&◌, List, [], ◌∷◌, filter, Option, Some, None, if◌then◌else◌}
+use Rattle.region_map.specs.declared.id.Id.{Id}
 use Rattle.region_map.specs.Keys.{hash_of}
 use Rattle.branch_history.specs.declared.version.Version.{Version}
+use Rattle.branch_history.specs.declared.history.BranchBirth.{BranchBirth}
+use Rattle.branch_history.specs.Histories.{birth_of}
 use Rattle.branch_history.specs.Paths.{is_on}
 use Rattle.contract_types.specs.Setup.{SetupState}
 use Rattle.contract_types.specs.Tables.{Table}
 use Rattle.register_laws.specs.Register.{state_after, writes}
 use Rattle.store_api.specs.declared.Row.{Row}
-use Rattle.store_api.specs.Rows.{value_in}
+use Rattle.store_api.specs.Rows.{has_key, value_in}
 use Rattle.store_api.specs.Versions.{point}
 use Rattle.node_core.specs.declared.journal.Entry.{Entry}
 use Rattle.world_core.specs.Latest.{told_table}
@@ -37,3 +40,12 @@ path_to setup past key version = filter (is_on_path_to setup (told_table setup p
 -- the row that they leave the key
 abbrev pub path_row : SetupState → List Entry → List ℕ → Version → Option Row
 path_row setup past key version = row_after None (path_to setup past key version)
+
+-- a version is of a branch of the table, whose region has the key, and not before the branch began
+pub record IsOfBranch (t : Table) (hashes : ℕ) (key : List ℕ) (version : Version) : Type 0 where
+  pub branch : Id
+  pub birth : BranchBirth
+  pub branch_is : version.branch ≡ Some branch
+  pub registered : birth_of t.history branch ≡ Some birth
+  pub inside : has_key birth.region hashes key ≡ true
+  pub later : birth.initial ≤ version.timestamp

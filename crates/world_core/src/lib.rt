@@ -16,7 +16,7 @@ pub use lose_refused::LoseRefused;
 pub use parts::MOST_ENTRIES;
 pub use point_laws::points_of_runs;
 pub use push_refused::PushRefused;
-pub use row_laws::rows_of_runs;
+pub use row_laws::{rows_of_runs, versions_of_runs};
 pub use world::World;
 
 pub mod change_laws;
