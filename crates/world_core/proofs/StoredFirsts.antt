@@ -46,21 +46,24 @@ use Rattle.world_core.proofs.StoredPaths.{is_up_to, is_keyed_to, row_at, filter-
 
 -- ---- the branches with which a table begins
 
--- a branch begins at timestamp 0, and goes on from nothing
-abbrev BeginsPlain : BranchBirth → Type 0
-BeginsPlain b = (b.initial ≡ 0) × ((h : ℕ) (k : List ℕ) → origin_at b h k ≡ zero)
+-- a branch is of a first life, begins at timestamp 0, and goes on from nothing
+abbrev BeginsPlain : Id → BranchBirth → Type 0
+BeginsPlain id b = (b.initial ≡ 0) × ((h : ℕ) (k : List ℕ) → origin_at b h k ≡ zero) × (id.life ≡ 1)
 
-plain_births : (hashes place : ℕ) (ss : List ShardConfig) (older : Branches) (id : Id) (b : BranchBirth) → ((i : Id) (c : BranchBirth) → birth_of older i ≡ Some c → BeginsPlain c)
-    → birth_of (first_branches hashes place ss older) id ≡ Some b → BeginsPlain b
+plain_births : (hashes place : ℕ) (ss : List ShardConfig) (older : Branches) (id : Id) (b : BranchBirth) → ((i : Id) (c : BranchBirth) → birth_of older i ≡ Some c → BeginsPlain i c)
+    → birth_of (first_branches hashes place ss older) id ≡ Some b → BeginsPlain id b
 plain_births hashes place [] older id b all e = all id b e
 plain_births hashes place (s ∷ ss) older id b all e =
     plain_births hashes (place + 1) ss ((first_id place s, first_birth hashes s) ∷ older) id b
-    (λ i c f. elim (id_eq (first_id place s) i) as (λ v. cond v (Some (first_birth hashes s)) (birth_of older i) ≡ Some c → BeginsPlain c) [
-      | true ↦ λ g.
-          subst BeginsPlain (some_inner (first_birth hashes s) c g)
-          (refl, λ h k. cond_both (in_region s.region h k) (Some zero) None (λ (o : Option Version). or_zero o ≡ zero) (λ _. refl) (λ _. refl))
-      | false ↦ λ g. all i c g
-    ] f) e
+    (λ i c f. elim (id_eq (first_id place s) i) as (λ v. id_eq (first_id place s) i ≡ v → cond v (Some (first_birth hashes s)) (birth_of older i) ≡ Some c → BeginsPlain i c) [
+      | true ↦ λ is g.
+          subst (BeginsPlain i) (some_inner (first_birth hashes s) c g) (
+            refl,
+            λ h k. cond_both (in_region s.region h k) (Some zero) None (λ (o : Option Version). or_zero o ≡ zero) (λ _. refl) (λ _. refl),
+            ap (λ (b : Id). b.life) (sym (id_same (first_id place s) i is)),
+          )
+      | false ↦ λ _ g. all i c g
+    ] refl f) e
 
 same_turned : (a b : Id) → id_eq a b ≡ same_id b a
 same_turned a b =
@@ -82,6 +85,7 @@ pub record IsBegun (setup : SetupState) (past : List Entry) (n : ℕ) (key : Lis
   pub registered : birth_of (history_of setup n past) b ≡ Some birth
   pub inside : in_region birth.region (hash_of key setup.hashes) key ≡ true
   pub initial : birth.initial ≡ 0
+  pub life : b.life ≡ 1
   pub origin : origin_at birth (hash_of key setup.hashes) key ≡ zero
 
 pub is_begun : (setup : SetupState) → IsSetup setup → (past : List Entry) → IsRun setup past → (n : ℕ) (key : List ℕ) (b : Id) → begun_branch setup key ≡ Some b → IsBegun setup past n key b
@@ -99,6 +103,7 @@ is_begun setup ok past run n key b begun =
           ∙ birth_longer longer.newer first b (newer_apart longer.newer first b (subst IsHistory longer.is hist) (birth_known first b reg.0 reg.1)) ∙ reg.1;
       inside = reg.2;
       initial = plain.0;
+      life = plain.2;
       origin = plain.1 h key;
     }
 

@@ -7,6 +7,7 @@ use Rattle.region_map.specs.declared.id.Id.{Id}
 use Rattle.region_map.specs.Keys.{hash_of}
 use Rattle.region_map.specs.Maps.{value_at}
 use Rattle.branch_history.specs.declared.version.Version.{Version}
+use Rattle.branch_history.specs.declared.history.BranchBirth.{BranchBirth}
 use Rattle.branch_history.specs.Paths.{Branches, zero as zero_version, is_on}
 use Rattle.branch_history.specs.Histories.{birth_of, IsHistory}
 use Rattle.branch_history.proofs.Births.{none_on}
@@ -21,7 +22,8 @@ use Rattle.node_core.specs.Step.{NodeState, is_led, serves}
 use Rattle.world_core.specs.Latest.{told_table}
 use Rattle.world_core.specs.Run.{state, IsRun}
 use Rattle.world_core.specs.Story.{Point, IsIn, points, same_key, path}
-use Rattle.world_core.specs.Stored.{row_after, is_on_path_to, path_row, IsOfBranch}
+use Rattle.world_core.specs.Stored.{CameAbout, row_after, is_on_path_to, path_row, IsOfBranch}
+use Rattle.world_core.specs.Stored.{Begun, Taken}
 use Rattle.world_core.proofs.Asked.{is_keyed, history_of}
 use Rattle.world_core.proofs.Begun.{begun_branch, is_branch}
 use Rattle.world_core.proofs.KeyedRoles.{led}
@@ -118,7 +120,7 @@ module _ (setup : SetupState) (ok : IsSetup setup) (past : List Entry) (run : Is
         ]
 
     -- at the node that leads the key the version is of a branch that the node knows
-    led_version : 1 ≤ led n setup.shards h key → IsOfBranch (told_table setup past) setup.hashes key version
+    led_version : 1 ≤ led n setup.shards h key → IsOfBranch (points past) (told_table setup past) setup.hashes key version
     led_version here =
         let f = keyed_node setup ok past run n in
         let l = leading setup ok past run n key here in
@@ -134,10 +136,11 @@ module _ (setup : SetupState) (ok : IsSetup setup) (past : List Entry) (run : Is
               ∙ birth_longer t.newer own l.branch (newer_apart t.newer own l.branch hist (birth_known own l.branch l.birth l.registered)) ∙ l.registered;
           inside = l.inside;
           later = subst (λ (v : Version). l.birth.initial ≤ v.timestamp) same l.initial;
+          came = subst (λ (v : Version). CameAbout all l.branch l.birth v.timestamp) same l.came;
         }
 
     -- at any other node it is zero, or of the branch with which the shard of the key begins
-    other_version : Away setup n key → (version ≡ zero_version) ⊎ IsOfBranch (told_table setup past) setup.hashes key version
+    other_version : Away setup n key → (version ≡ zero_version) ⊎ IsOfBranch (points past) (told_table setup past) setup.hashes key version
     other_version away =
         let k = ((run_kept setup ok past run).nodes n).kept key away in
         let same : k.version ≡ version = some_inner k.version version (sym k.stands ∙ stands) in
@@ -147,10 +150,14 @@ module _ (setup : SetupState) (ok : IsSetup setup) (past : List Entry) (run : Is
         none_is : IsReached all version → version.branch ≡ None → version ≡ zero_version
         none_is low none = version_same version zero_version none (subst (λ (o : Option Id). IsReachedBy all o version.timestamp) none low)
 
-        by : Told setup past 0 → (version.branch ≡ None) ⊎ (version.branch ≡ begun_branch setup key) → IsReached all version → (version ≡ zero_version) ⊎ IsOfBranch (told_table setup past) setup.hashes key version
+        came_about : (b : Id) (birth : BranchBirth) → b.life ≡ 1 → IsReachedBy all (Some b) version.timestamp → CameAbout all b birth version.timestamp
+        came_about b birth life (inl none) = Begun life none
+        came_about b birth life (inr t) = Taken t.by t.is_in t.branch_is t.time
+
+        by : Told setup past 0 → (version.branch ≡ None) ⊎ (version.branch ≡ begun_branch setup key) → IsReached all version → (version ≡ zero_version) ⊎ IsOfBranch (points past) (told_table setup past) setup.hashes key version
         by t (inl none) low = inl (none_is low none)
         by t (inr is) low =
-            elim (begun_branch setup key) as (λ o. begun_branch setup key ≡ o → (version ≡ zero_version) ⊎ IsOfBranch (told_table setup past) setup.hashes key version) [
+            elim (begun_branch setup key) as (λ o. begun_branch setup key ≡ o → (version ≡ zero_version) ⊎ IsOfBranch (points past) (told_table setup past) setup.hashes key version) [
               | None ↦ λ e. inl (none_is low (is ∙ e))
               | Some b ↦ λ e.
                   let i = is_begun setup ok past run t.n key b e in
@@ -161,10 +168,11 @@ module _ (setup : SetupState) (ok : IsSetup setup) (past : List Entry) (run : Is
                     registered = ap (λ (bs : Branches). birth_of bs b) t.told ∙ i.registered;
                     inside = i.inside;
                     later = let zero_is = i.initial in omega (arith, zero_is);
+                    came = came_about b i.birth i.life (subst (λ (o : Option Id). IsReachedBy all o version.timestamp) (is ∙ e) low);
                   })
             ] refl
 
-    version_is : (version ≡ zero_version) ⊎ IsOfBranch (told_table setup past) setup.hashes key version
+    version_is : (version ≡ zero_version) ⊎ IsOfBranch (points past) (told_table setup past) setup.hashes key version
     version_is =
         elim (cases_eq (led n setup.shards h key) 0) [
           | inl none ↦ other_version none
@@ -199,5 +207,5 @@ leading_row setup ok past run n key leads = led_path setup ok past run n key (le
 
 -- a version is zero, or of a branch that is known
 pub stored_version : (setup : SetupState) → IsSetup setup → (past : List Entry) → IsRun setup past → (n : ℕ) (key : List ℕ) (version : Version) → version_of (state setup n past).versions key ≡ Some version
-    → (version ≡ zero_version) ⊎ IsOfBranch (told_table setup past) setup.hashes key version
+    → (version ≡ zero_version) ⊎ IsOfBranch (points past) (told_table setup past) setup.hashes key version
 stored_version setup ok past run n key version stands = version_is setup ok past run n key version stands

@@ -11,7 +11,7 @@ ghost use Rattle.node_core.specs.declared.journal.Entry.{Entry};
 ghost use Rattle.node_core.specs.Step.{is_led, serves};
 ghost use Rattle.world_core.specs.Latest.{told_table};
 ghost use Rattle.world_core.specs.Run.{IsRun, state};
-ghost use Rattle.world_core.specs.Story.{path};
+ghost use Rattle.world_core.specs.Story.{path, points};
 ghost use Rattle.world_core.specs.Stored.{row_after, path_row, IsOfBranch};
 
 /// In every run, each key has a version at each node, up or down, and its row there is what the operations on it left that
@@ -34,9 +34,10 @@ pub fn rows_of_runs()
 {}
 
 /// In every run, each version of a key at a node is zero, or of a branch that is registered in the table that the journal
-/// tells, whose region has the key, and not before the branch began.
+/// tells, whose region has the key, and not before the branch began. The table began with it, a primary made it by the first
+/// sync of a branch that it started, or an operation took it.
 pub fn versions_of_runs()
     ensures { (setup : SetupState) → IsSetup setup → (past : List Entry) → IsRun setup past
         → (n : ℕ) (key : List ℕ) (version : Version) → version_of (state setup n past).versions key ≡ Some version
-        → (version ≡ zero) ⊎ IsOfBranch (told_table setup past) setup.hashes key version }
+        → (version ≡ zero) ⊎ IsOfBranch (points past) (told_table setup past) setup.hashes key version }
 {}
