@@ -1,5 +1,5 @@
 -- What a primary asked for at some moment of a run, and what is then known of the keys that it leads.
-use Rattle.std.proofs.Common.{◌≡◌, ◌⊎◌, ℕ, Bool, true, cond, List, [], ◌∷◌, filter, Option, Some}
+use Rattle.std.proofs.Common.{◌≡◌, ◌⊎◌, ℕ, ◌≤◌, Bool, true, cond, List, [], ◌∷◌, filter, Option, Some}
 use Rattle.region_map.specs.declared.id.Id.{Id}
 use Rattle.region_map.specs.declared.id.NodeId.{NodeId}
 use Rattle.region_map.specs.Nodes.{node_id}
@@ -24,6 +24,7 @@ use Rattle.node_core.specs.Starting.{current_of}
 use Rattle.world_core.specs.Committed.{IsEarlier}
 use Rattle.world_core.specs.Run.{state}
 use Rattle.world_core.specs.Story.{Point, IsIn, points, same_key}
+use Rattle.world_core.specs.Stored.{CameAbout}
 
 -- ---- the points of a key
 
@@ -91,6 +92,8 @@ pub record LedFacts (setup : SetupState) (past : List Entry) (h : ℕ) (key : Li
   pub birth : BranchBirth
   pub registered : birth_of (history_of setup p past) branch ≡ Some birth
   pub inside : in_region birth.region h key ≡ true
+  pub initial : birth.initial ≤ version.timestamp
+  pub came : CameAbout (points past) branch birth version.timestamp
   pub points_on : (q : Point) → IsIn (points past) q → is_keyed key q ≡ true → is_on (history_of setup p past) h key version (point q.branch q.timestamp) ≡ true
   pub asked : (b : Id) (r : Region) (based_on : Pieced Id) (origin : Pieced Version) → Asked setup past (node_id p) b r based_on origin → in_region r h key ≡ true
       → (value_at origin.pieces h key ≡ Some version) ⊎ Stale (history_of setup p past) branch b (value_at based_on.pieces h key)

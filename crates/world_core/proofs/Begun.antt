@@ -1,5 +1,5 @@
 -- The points of the branch with which a key's shard begins, and their story.
-use Rattle.std.proofs.Common.{◌≡◌, ℕ, Bool, ◌&&◌, List, ◌++◌, map, filter, Option, None}
+use Rattle.std.proofs.Common.{◌≡◌, ℕ, Bool, false, ◌&&◌, List, ◌++◌, map, filter, Option, Some, None}
 use Rattle.region_map.specs.declared.id.Id.{Id}
 use Rattle.region_map.specs.Keys.{hash_of}
 use Rattle.contract_types.specs.Setup.{SetupState}
@@ -8,10 +8,15 @@ use Rattle.register_laws.specs.declared.operation.Told.{Told}
 use Rattle.register_laws.specs.Lists.{told_from}
 use Rattle.node_core.specs.declared.journal.Entry.{Entry}
 use Rattle.world_core.specs.Story.{Point, points, same_key, call_of, is_shown_point, is_shown_told, up_to_done}
-use Rattle.world_core.specs.Stored.{is_branch}
+use Rattle.exec_types.specs.Sessions.{same_id}
 
 abbrev pub begun_branch : SetupState → List ℕ → Option Id
 begun_branch setup key = branch_at (table_of setup).history (hash_of key setup.hashes) key
+
+-- whether a branch, where there is one, is this one
+abbrev pub is_branch : Option Id → Id → Bool
+is_branch None id = false
+is_branch (Some branch) id = same_id branch id
 
 abbrev pub is_on_begun : SetupState → List ℕ → Point → Bool
 is_on_begun setup key p = same_key p.key key && is_branch (begun_branch setup key) p.branch

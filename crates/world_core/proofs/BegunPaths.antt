@@ -38,8 +38,7 @@ use Rattle.world_core.specs.Run.{names_node, arrives, suits, is_fresh, brought, 
 use Rattle.world_core.specs.Committed.{viewed_in, viewed_by}
 use Rattle.world_core.specs.Latest.{longer, longest_of, told_from, told_table}
 use Rattle.world_core.specs.Story.{Point, points_in, points_of, points, same_key, is_on_branch, is_on_path, path, call_of, is_shown_point, story}
-use Rattle.world_core.specs.Stored.{is_branch}
-use Rattle.world_core.proofs.Begun.{begun_branch, is_on_begun, begun_path, begun_story}
+use Rattle.world_core.proofs.Begun.{is_branch, begun_branch, is_on_begun, begun_path, begun_story}
 use Rattle.world_core.proofs.Plain.{SendsPlain, plain_step, all_append, quiet_past, quiet_outs, quiet_sends}
 use Rattle.world_core.proofs.Requesting.{dispatch_points}
 use Rattle.world_core.proofs.Steps.{points_in-end}

@@ -13,7 +13,7 @@ use Rattle.contract_types.specs.declared.config.ShardConfig.{ShardConfig}
 use Rattle.contract_types.specs.Tables.{first_id}
 use Rattle.contract_types.specs.Setup.{SetupState, IsSetup}
 use Rattle.contract_types.specs.Tilings.{holders}
-use Rattle.store_api.specs.Rows.{Rows, value_of}
+use Rattle.store_api.specs.Rows.{Rows, row_of}
 use Rattle.store_api.specs.Versions.{point, replaced_map, zero_map}
 use Rattle.store_api.proofs.VersionMaps.{replaced_map_hashes, replaced_map_at, zero_map_hashes, zero_map_at}
 use Rattle.secondary_exec.specs.declared.following.Following.{Following}
@@ -23,8 +23,8 @@ use Rattle.primary_exec.specs.Execution.{Execution}
 use Rattle.node_core.specs.declared.journal.Entry.{Entry}
 use Rattle.node_core.specs.Step.{NodeState, executions_from, versions_from, begin_node}
 use Rattle.world_core.specs.Story.{Point, IsIn, points_of}
+use Rattle.world_core.specs.Stored.{row_after}
 use Rattle.world_core.proofs.Asked.{is_keyed, key_path}
-use Rattle.world_core.proofs.Told.{after}
 use Rattle.world_core.proofs.RegisterStory.{same_key-true}
 use Rattle.world_core.proofs.Setups.{exec_region, following_region, nothing_begun, versions_begin}
 use Rattle.world_core.proofs.Nodes.{holders-in, holders-rest}
@@ -72,14 +72,14 @@ abbrev pub AllRun : ℕ → List Entry → Pieced Version → List Execution →
 AllRun hashes past versions xs = AllByRecursion (Runs hashes past versions) xs
 
 -- a node executes or asks for what it leads alone, and follows or waits for what it follows alone; and its rows of the
--- keys that it leads, executing or not, have the values that all operations on them left
+-- keys that it leads, executing or not, are what all operations on them left
 pub record KeyedNode (setup : SetupState) (past : List Entry) (n : ℕ) (s : Holding) : Type 0 where
   pub begun : s.setup ≡ setup
   pub me_is : s.me ≡ node_id n
   pub filled : IsFilled setup.hashes s.versions
   pub leads : (h : ℕ) (k : List ℕ) → holders exec_region s.executions h k + holders asking_region s.asking h k ≤ led n setup.shards h k
   pub follows : (h : ℕ) (k : List ℕ) → holders following_region s.followings h k + holders waiting_region s.waiting h k ≤ followed n setup.shards h k
-  pub store : (key : List ℕ) → 1 ≤ led n setup.shards (hash_of key setup.hashes) key → value_of s.rows key ≡ after None (key_path past key)
+  pub store : (key : List ℕ) → 1 ≤ led n setup.shards (hash_of key setup.hashes) key → row_of s.rows key ≡ row_after None (key_path past key)
   pub runs : AllRun setup.hashes past s.versions s.executions
 
 -- ---- lists of executions
@@ -141,7 +141,7 @@ module _ (past : List Entry) (e : Entry) where
         filled = f.filled;
         leads = f.leads;
         follows = f.follows;
-        store = λ key l. f.store key l ∙ ap (after None) (sym (path_still none key));
+        store = λ key l. f.store key l ∙ ap (row_after None) (sym (path_still none key));
         runs = all_weaker (Runs setup.hashes past s.versions) (Runs setup.hashes (e ∷ past) s.versions) (run_more setup.hashes past e s.versions) s.executions f.runs;
       }
 
@@ -165,7 +165,7 @@ other setup ok past e n m s apart theirs f =
       filled = f.filled;
       leads = f.leads;
       follows = f.follows;
-      store = λ key l. f.store key l ∙ ap (after None) (sym (same_path key l));
+      store = λ key l. f.store key l ∙ ap (row_after None) (sym (same_path key l));
       runs = all_weaker (Runs setup.hashes past s.versions) (Runs setup.hashes (e ∷ past) s.versions) (run_more setup.hashes past e s.versions) s.executions f.runs;
     }
   where

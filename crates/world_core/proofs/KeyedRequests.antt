@@ -1,7 +1,7 @@
 -- What a request does to a node and to the paths of the keys.
 use Rattle.std.proofs.Common.{◌≡◌, ℕ, ◌+◌, ◌≤◌, ◌<◌, ◌==◌, true, false, cond, ◌&&◌, ◌||◌, nat_lt, List, [], ◌∷◌, ◌++◌, map, filter, Option, Some, None, is_some, refl, sym, ap, ◌∙◌, subst, ◌⊎◌, inl, inr, arith, sum}
 use Rattle.std.proofs.Math.Nat.{mod-lt}
-use Rattle.std.proofs.lemmas.Bool.{false≢true, cond_both, and_from, eq-eqb, lt-ltb}
+use Rattle.std.proofs.lemmas.Bool.{cond_both, and_from, eq-eqb, lt-ltb}
 use Rattle.std.specs.List.{list_any}
 use Rattle.std.specs.Cmp.Lexicographic.{nat_list_eq_equiv}
 use Rattle.region_map.specs.declared.id.Id.{Id}
@@ -13,31 +13,29 @@ use Rattle.region_map.specs.Maps.{Pieced, value_at}
 use Rattle.branch_history.specs.declared.version.Version.{Version}
 use Rattle.register_laws.specs.declared.operation.OpId.{OpId}
 use Rattle.register_laws.specs.declared.operation.Op.{Op}
-use Rattle.register_laws.specs.declared.operation.Op.TheVariants.{Put, Delete, Cas, Read}
-use Rattle.register_laws.specs.Register.{State, reply_of, state_after, writes}
+use Rattle.register_laws.specs.Register.{State, reply_of}
 use Rattle.contract_types.specs.Setup.{SetupState}
 use Rattle.contract_types.specs.Tilings.{holders}
-use Rattle.exec_types.specs.Parts.{effect_of}
 use Rattle.exec_types.specs.Sessions.{same_id}
 use Rattle.exec_types.specs.declared.message.Part.{Part}
-use Rattle.exec_types.specs.declared.message.Part.TheVariants.{Write, Sync}
 use Rattle.exec_types.specs.declared.input.Input.TheVariants.{Request}
 use Rattle.exec_types.specs.declared.outcome.Outcome.TheVariants.{NotServing}
 use Rattle.exec_types.specs.declared.output.Output.{Output}
 use Rattle.exec_types.specs.declared.output.Output.TheVariants.{Dispatched, Answer}
 use Rattle.store_api.specs.declared.Row.{Row}
-use Rattle.store_api.specs.Rows.{Rows, value_in, value_of, with_row}
-use Rattle.store_api.specs.Versions.{point, is_behind, comes_to, advanced_rows, advanced_map}
-use Rattle.store_api.proofs.RowLemmas.{row_of-with_row_same, row_of-with_row_other}
+use Rattle.store_api.specs.Rows.{Rows, row_of, value_in, value_of}
+use Rattle.store_api.specs.Versions.{point, is_behind, comes_to, advanced_map}
 use Rattle.store_api.proofs.VersionMaps.{advanced_map_hashes, advanced_map_at}
 use Rattle.primary_exec.specs.Execution.{Execution, PrimaryStep, has_room, sends, part_of, dispatch_row}
 use Rattle.node_core.specs.declared.journal.Entry.{Entry}
 use Rattle.node_core.specs.Parts.{Requested, is_for, dispatched, passed_on, request_all}
 use Rattle.world_core.specs.Story.{Point, points_in, same_key}
+use Rattle.world_core.specs.Stored.{row_after}
 use Rattle.world_core.proofs.Asked.{is_keyed, key_path}
-use Rattle.world_core.proofs.Told.{after, after-append, TookEffect, TookEffect-last}
+use Rattle.world_core.proofs.Told.{TookEffect, TookEffect-last}
 use Rattle.world_core.proofs.Outs.{all_push}
 use Rattle.world_core.proofs.RegisterStory.{same_key-true}
+use Rattle.world_core.proofs.RowSteps.{row_after-append, value_in-after, row-own, row-other}
 use Rattle.world_core.proofs.Setups.{exec_region}
 use Rattle.world_core.proofs.Nodes.{StoreStays, holders-in}
 use Rattle.world_core.proofs.Requesting.{point_at, region_stays}
@@ -97,34 +95,6 @@ same_key-self key = nat_list_eq_equiv.refl key
 
 same_id-refl : (i : Id) → same_id i i ≡ true
 same_id-refl i = and_from ((i.node.0 == i.node.0) && (i.life == i.life)) (i.counter == i.counter) (and_from (i.node.0 == i.node.0) (i.life == i.life) (eq-eqb i.node.0 i.node.0 refl) (eq-eqb i.life i.life refl)) (eq-eqb i.counter i.counter refl)
-
--- ---- rows
-
-keeps_state : (s : State) (w : Op) → writes s w ≡ false → state_after s w ≡ s
-keeps_state s (Put v) e = absurd (false≢true (sym e))
-keeps_state s Delete e = absurd (false≢true (sym e))
-keeps_state s (Cas expect put) e = ap (λ b. cond b put s) e
-keeps_state s Read e = refl
-
--- the value of the key of an operation that comes to its timestamp, and of any other key
-value_of-own : (rows : Rows) (region : Region) (branch : Id) (at : ℕ) (versions : Pieced Version) (key : List ℕ) (what : Op) → comes_to region branch at versions key ≡ true
-    → value_of (advanced_rows (effect_of (part_of (value_of rows key) at key what)) region branch at versions rows) key ≡ state_after (value_of rows key) what
-value_of-own rows region branch at versions key what comes =
-    let before : State = value_of rows key in
-    let row : Row = record { value = state_after before what; recency = at } in
-    cond_both (writes before what) (Write at key row) (Sync at) (λ (p : Part). value_of (advanced_rows (effect_of p) region branch at versions rows) key ≡ state_after before what)
-    (λ _. ap (λ b. value_of (cond b (with_row rows key row) rows) key) comes ∙ ap value_in (row_of-with_row_same rows key row))
-    (λ e. sym (keeps_state before what e))
-
-value_of-other : (rows : Rows) (region : Region) (branch : Id) (at : ℕ) (versions : Pieced Version) (key other : List ℕ) (what : Op) → same_key other key ≡ false
-    → value_of (advanced_rows (effect_of (part_of (value_of rows key) at key what)) region branch at versions rows) other ≡ value_of rows other
-value_of-other rows region branch at versions key other what ne =
-    let before : State = value_of rows key in
-    let row : Row = record { value = state_after before what; recency = at } in
-    cond_both (writes before what) (Write at key row) (Sync at) (λ (p : Part). value_of (advanced_rows (effect_of p) region branch at versions rows) other ≡ value_of rows other)
-    (λ _. cond_both (comes_to region branch at versions key) (with_row rows key row) rows (λ (l : Rows). value_of l other ≡ value_of rows other)
-    (λ _. ap value_in (row_of-with_row_other rows key other row ne)) (λ _. refl))
-    (λ _. refl)
 
 -- ---- versions
 
@@ -204,24 +174,25 @@ module _ (setup : SetupState) (past : List Entry) (node : NodeId) (op : OpId) (k
       ∙ and_from (in_region region (hash_of key setup.hashes) key) (is_behind x.branch (x.last + 1) (value_at s.versions.pieces (hash_of key setup.hashes) key)) has
       (ap (is_behind x.branch (x.last + 1)) (runs.1.0.stands (hash_of key setup.hashes) key (mod-lt (sum key) some) has) ∙ behind_own x.branch x.last (x.last + 1) later')
 
-  own_store : (k : List ℕ) → 1 ≤ led n setup.shards (hash_of k setup.hashes) k → value_of row.rows k ≡ after None (key_path (e ∷ past) k)
+  own_store : (k : List ℕ) → 1 ≤ led n setup.shards (hash_of k setup.hashes) k → row_of row.rows k ≡ row_after None (key_path (e ∷ past) k)
   own_store k l =
-      let value : after None (key_path (e ∷ past) k) ≡ after (value_of s.rows k) (cond (same_key key k) (new ∷ []) []) =
-      ap (after None) (way k) ∙ after-append None (key_path past k) (cond (same_key key k) (new ∷ []) []) ∙ ap (λ (v : State). after v (cond (same_key key k) (new ∷ []) [])) (sym (f.store k l)) in
-      let here : value_of row.rows k ≡ after (value_of s.rows k) (cond (same_key key k) (new ∷ []) []) =
-      elim (same_key key k) as (λ c. same_key key k ≡ c → value_of row.rows k ≡ after (value_of s.rows k) (cond c (new ∷ []) [])) [
+      let all : row_after None (key_path (e ∷ past) k) ≡ row_after (row_of s.rows k) (cond (same_key key k) (new ∷ []) []) =
+      ap (row_after None) (way k) ∙ row_after-append None (key_path past k) (cond (same_key key k) (new ∷ []) [])
+      ∙ ap (λ (r : Option Row). row_after r (cond (same_key key k) (new ∷ []) [])) (sym (f.store k l)) in
+      let here : row_of row.rows k ≡ row_after (row_of s.rows k) (cond (same_key key k) (new ∷ []) []) =
+      elim (same_key key k) as (λ c. same_key key k ≡ c → row_of row.rows k ≡ row_after (row_of s.rows k) (cond c (new ∷ []) [])) [
         | true ↦ λ is.
-            subst (λ (v : List ℕ). value_of row.rows v ≡ after (value_of s.rows v) (new ∷ [])) (same_key-true key k is)
-            (value_of-own s.rows region x.branch (x.last + 1) s.versions key what comes)
-        | false ↦ λ ne. value_of-other s.rows region x.branch (x.last + 1) s.versions key k what (same_key_sym key k ne)
+            subst (λ (v : List ℕ). row_of row.rows v ≡ row_after (row_of s.rows v) (new ∷ [])) (same_key-true key k is)
+            (row-own new region x.branch (x.last + 1) s.versions s.rows refl comes)
+        | false ↦ λ ne. row-other old what key k region x.branch (x.last + 1) s.versions s.rows (λ _. same_key_sym key k ne)
       ] refl in
-      here ∙ sym value
+      here ∙ sym all
 
   own_waits : WaitsKeyed (e ∷ past) (record { op = Some op; at = x.last + 1; reply = reply_of old what })
   own_waits =
       let way_here : key_path (e ∷ past) key ≡ key_path past key ++ new ∷ [] = way key ∙ ap (λ c. key_path past key ++ cond c (new ∷ []) []) (same_key-self key) in
       let took_here : TookEffect (key_path past key ++ new ∷ []) op what (reply_of old what) =
-      subst (λ (v : State). TookEffect (key_path past key ++ new ∷ []) op what (reply_of v what)) (sym (f.store key leads_key)) (TookEffect-last (key_path past key) new) in
+      subst (λ (v : State). TookEffect (key_path past key ++ new ∷ []) op what (reply_of v what)) (sym (ap value_in (f.store key leads_key) ∙ value_in-after None (key_path past key))) (TookEffect-last (key_path past key) new) in
       record { waits = (key, what, inl (refl, refl, refl), subst (λ (l : List Point). TookEffect l op what (reply_of old what)) (sym way_here) took_here) }
 
   stays : StoreStays setup.hashes (λ h k. cond (in_region region h k) 1 0) s.rows row.rows s.versions row.versions

@@ -44,7 +44,7 @@ hashes_some : (h : ℕ) → is_hashes h ≡ true → 0 < h
 hashes_some zero e = absurd (false≢true e)
 hashes_some (suc h) e = omega arith
 
-some_hash : (setup : SetupState) → IsSetup setup → 0 < setup.hashes
+pub some_hash : (setup : SetupState) → IsSetup setup → 0 < setup.hashes
 some_hash setup ok = hashes_some setup.hashes (and_parts (nat_lt 0 setup.nodes && nat_le setup.nodes 7) (is_hashes setup.hashes) ok.fits).1
 
 step_fresh : (setup : SetupState) (past : List Entry) (e : Entry) → IsStep setup past e → is_fresh past e.input ≡ true

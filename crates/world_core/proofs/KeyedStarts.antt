@@ -46,12 +46,11 @@ started_inside hashes a initial m h k f l i =
     ∙ ap (λ b. cond b (Some new) (value_at m.pieces h k)) (and_from (in_region a.contract.region h k) (is_some (value_at m.pieces h k)) i (f.some h k l)))
 
 -- any other pair keeps its version
-pub started_outside : (hashes : ℕ) (a : Asking) (initial : ℕ) (m : Pieced Version) (h : ℕ) (k : List ℕ) → IsFilled hashes m → h < hashes → in_region a.contract.region h k ≡ false
+pub started_outside : (hashes : ℕ) (a : Asking) (initial : ℕ) (m : Pieced Version) (h : ℕ) (k : List ℕ) → m.hashes ≡ hashes → h < hashes → in_region a.contract.region h k ≡ false
     → value_at (started_versions a initial m).pieces h k ≡ value_at m.pieces h k
-started_outside hashes a initial m h k f l out =
+started_outside hashes a initial m h k same l out =
     let new : Version = point a.branch initial in
     let n : Pieced Version = replaced_map a.contract.region new m in
-    let same = f.hashes_are in
     let size = replaced_map_hashes a.contract.region new m in
     advanced_map_at a.contract.region a.branch (initial + 1) n h k (omega (arith, same, size, l))
     ∙ ap (λ b. cond (b && is_behind a.branch (initial + 1) (value_at n.pieces h k)) (Some (point a.branch (initial + 1))) (value_at n.pieces h k)) out
@@ -60,7 +59,7 @@ started_outside hashes a initial m h k f l out =
 
 -- ---- starting
 
-placed_all : (P : Execution → Type 0) (cs : List Contract) (x : Execution) (ys : List Execution) → P x → AllByRecursion P ys → AllByRecursion P (placed cs x ys)
+pub placed_all : (P : Execution → Type 0) (cs : List Contract) (x : Execution) (ys : List Execution) → P x → AllByRecursion P ys → AllByRecursion P (placed cs x ys)
 placed_all P cs x [] h k = (h, tt)
 placed_all P cs x (y ∷ ys) h k =
     cond_both (nat_lt (place_of cs x.contract.id) (place_of cs y.contract.id)) (x ∷ y ∷ ys) (y ∷ placed cs x ys) (λ (l : List Execution). AllByRecursion P l)
@@ -105,7 +104,7 @@ module _ (setup : SetupState) (past : List Entry) (n : ℕ) (one : (h : ℕ) (k 
             let first = holders-append asking_region (a ∷ []) rest h k in
             let few = one h k in
             omega (arith, all, first, few))
-            (λ h k l none. started_outside setup.hashes a initial s.versions h k f.filled l (outside (in_region a.contract.region h k) none)) f.runs);
+            (λ h k l none. started_outside setup.hashes a initial s.versions h k f.filled.hashes_are l (outside (in_region a.contract.region h k) none)) f.runs);
       }
     where
       outside : (b : Bool) → ◌≡◌ {A = ℕ} (cond b 1 0) 0 → b ≡ false

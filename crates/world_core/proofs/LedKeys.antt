@@ -155,6 +155,7 @@ acts_led setup n H hist g key within ps version branch step (Some vw) r now l sa
       registered = l.registered;
       inside = l.inside;
       initial = l.initial;
+      came = l.came;
       points_on = l.points_on;
       life = l.life;
       earlier = l.earlier;
@@ -171,6 +172,7 @@ acts_led setup n H hist g key within ps version branch step (Some vw) r now l sa
         registered = e.led.registered;
         inside = e.led.inside;
         initial = e.led.initial;
+        came = e.led.came;
         points_on = e.led.points_on;
         life = e.led.life;
         earlier = λ a i p. e.led.earlier a (IsIn-left (start_each s.me t s.asking st).asking [] a i) p;
@@ -462,6 +464,8 @@ led_facts setup ok past run key shard i inside =
       birth = l.led.birth;
       registered = l.led.registered;
       inside = l.led.inside;
+      initial = l.led.initial;
+      came = l.led.came;
       points_on = l.led.points_on;
       asked = l.asked;
     }

@@ -21,9 +21,11 @@ use Rattle.store_api.specs.Versions.{point, is_behind, advanced_map}
 use Rattle.store_api.proofs.VersionMaps.{advanced_map_at}
 use Rattle.primary_exec.specs.declared.asking.Asking.{Asking}
 use Rattle.world_core.specs.Story.{Point, IsIn}
+use Rattle.world_core.specs.Stored.{CameAbout}
+use Rattle.world_core.specs.Stored.{Begun, Synced, Taken}
 use Rattle.world_core.proofs.Asked.{is_keyed}
 use Rattle.world_core.proofs.RegisterStory.{same_key-true}
-use Rattle.world_core.proofs.Told.{IsIn-append, IsIn-right}
+use Rattle.world_core.proofs.Told.{IsIn-left, IsIn-append, IsIn-right}
 use Rattle.world_core.proofs.LedHistories.{some_inner, birth_known, birth_longer, newer_apart}
 use Rattle.world_core.proofs.LedRows.{Lead, Kept, Done, Still, Dispatches, Streams, GoesDown, ComesUp}
 use Rattle.world_core.proofs.LedRoles.{lead_region, Roles, middle_count, one_of_few}
@@ -37,6 +39,7 @@ pub record Led (H : Branches) (g : ℕ) (key : List ℕ) (ps : List Point) (vers
   pub registered : birth_of H branch ≡ Some birth
   pub inside : in_region birth.region g key ≡ true
   pub initial : birth.initial ≤ version.timestamp
+  pub came : CameAbout ps branch birth version.timestamp
   pub points_on : (q : Point) → IsIn ps q → is_keyed key q ≡ true → is_on H g key version (point q.branch q.timestamp) ≡ true
   pub life : branch.life ≤ k.life
   pub earlier : (a : Asking) → IsIn k.asking a → in_region a.contract.region g key ≡ true → branch.life < k.life
@@ -50,6 +53,12 @@ pub record HasLead (g : ℕ) (key : List ℕ) (xs : List Lead) : Type 0 where
 
 -- ---- more points of other keys, and a longer history
 
+-- what came about stays so
+came_more : (ps qs : List Point) (branch : Id) (birth : BranchBirth) (at : ℕ) → CameAbout ps branch birth at → CameAbout (ps ++ qs) branch birth at
+came_more ps qs branch birth at (Begun life is) = Begun life is
+came_more ps qs branch birth at (Synced life is) = Synced life is
+came_more ps qs branch birth at (Taken p i of is) = Taken p (IsIn-left ps qs p i) of is
+
 pub led_more : (H : Branches) (g : ℕ) (key : List ℕ) (ps qs : List Point) (version : Version) (branch : Id) (k : Kept) → Led H g key ps version branch k
     → ((q : Point) → IsIn qs q → is_keyed key q ≡ true → ⊥) → Led H g key (ps ++ qs) version branch k
 led_more H g key ps qs version branch k l other =
@@ -60,6 +69,7 @@ led_more H g key ps qs version branch k l other =
       registered = l.registered;
       inside = l.inside;
       initial = l.initial;
+      came = came_more ps qs branch l.birth version.timestamp l.came;
       points_on = λ q i e. elim (IsIn-append ps qs q i) [ inl old ↦ l.points_on q old e | inr new ↦ absurd (other q new e) ];
       life = l.life;
       earlier = l.earlier;
@@ -76,6 +86,7 @@ led_longer newer H g key ps version branch k hist l =
       registered = birth_longer newer H branch (newer_apart newer H branch hist (birth_known H branch l.birth l.registered)) ∙ l.registered;
       inside = l.inside;
       initial = l.initial;
+      came = l.came;
       points_on = λ q i e. points_stay newer H g key version (point q.branch q.timestamp) hist (l.points_on q i e);
       life = l.life;
       earlier = l.earlier;
@@ -168,6 +179,7 @@ module _ (setup : SetupState) (n : ℕ) (H : Branches) (hist : IsHistory H) (key
           registered = l.registered;
           inside = l.inside;
           initial = omega (arith, begins, at);
+          came = Taken q (IsIn-right ps (q ∷ []) q (inl refl)) (from ∙ same_branch) time;
           points_on = λ p i e. elim (IsIn-append ps (q ∷ []) p i) [
             | inl old ↦ on_forward H g key version v (point p.branch p.timestamp) of (omega (arith, at)) (l.points_on p old e)
             | inr new ↦ elim new [
@@ -205,6 +217,7 @@ module _ (setup : SetupState) (n : ℕ) (H : Branches) (hist : IsHistory H) (key
           registered = l.registered;
           inside = l.inside;
           initial = l.initial;
+          came = came_more ps (q ∷ []) branch l.birth version.timestamp l.came;
           points_on = moved.points_on;
           life = l.life;
           earlier = l.earlier;
@@ -233,6 +246,7 @@ module _ (setup : SetupState) (n : ℕ) (H : Branches) (hist : IsHistory H) (key
           registered = l.registered;
           inside = l.inside;
           initial = l.initial;
+          came = came_more ps qs branch l.birth version.timestamp l.came;
           points_on = m.points_on;
           life = l.life;
           earlier = l.earlier;
@@ -251,6 +265,7 @@ module _ (setup : SetupState) (n : ℕ) (H : Branches) (hist : IsHistory H) (key
           registered = l.registered;
           inside = l.inside;
           initial = l.initial;
+          came = came_more ps qs branch l.birth version.timestamp l.came;
           points_on = m.points_on;
           life = l.life;
           earlier = λ a i p. absurd i;
@@ -270,6 +285,7 @@ module _ (setup : SetupState) (n : ℕ) (H : Branches) (hist : IsHistory H) (key
           registered = l.registered;
           inside = l.inside;
           initial = l.initial;
+          came = came_more ps qs branch l.birth version.timestamp l.came;
           points_on = m.points_on;
           life = omega (arith, made);
           earlier = λ a i p. omega (arith, made);

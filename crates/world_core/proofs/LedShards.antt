@@ -23,6 +23,7 @@ use Rattle.store_api.specs.Versions.{point, zero_map}
 use Rattle.primary_exec.specs.Execution.{Execution, setup_execution}
 use Rattle.node_core.specs.Step.{is_led, executions_from, versions_from, begin_node}
 use Rattle.world_core.specs.Story.{Point, IsIn}
+use Rattle.world_core.specs.Stored.{Begun}
 use Rattle.world_core.proofs.Asked.{is_keyed, history_of}
 use Rattle.world_core.proofs.PointBranches.{all_at}
 use Rattle.world_core.proofs.RegisterStory.{same_key-true}
@@ -168,6 +169,7 @@ begins_led setup ok shard i key within inside =
         registered = reg.1;
         inside = reg.2;
         initial = omega (arith, zero);
+        came = Begun life refl;
         points_on = λ q j e. absurd j;
         life = omega (arith, life);
         earlier = λ a j e. absurd j;

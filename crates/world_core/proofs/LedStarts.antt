@@ -19,6 +19,7 @@ use Rattle.primary_exec.specs.declared.asking.Asking.{Asking}
 use Rattle.primary_exec.specs.Execution.{Execution, started}
 use Rattle.node_core.specs.Starting.{Starting, place_of, placed, due, start_one, start_each}
 use Rattle.world_core.specs.Story.{Point, IsIn}
+use Rattle.world_core.specs.Stored.{Synced}
 use Rattle.world_core.proofs.Told.{IsIn-append}
 use Rattle.world_core.proofs.LedRows.{Lead, lead_of, leads_of, Kept}
 use Rattle.world_core.proofs.LedRoles.{lead_region, asking_region, placed_there, some_there, count_first, AreStarting, one_starting}
@@ -80,6 +81,7 @@ module _ (setup : SetupState) (n life : ℕ) (H : Branches) (hist : IsHistory H)
           registered = l.registered;
           inside = l.inside;
           initial = l.initial;
+          came = l.came;
           points_on = l.points_on;
           life = l.life;
           earlier = λ y i p. l.earlier y (moved_in s.asking a rest y i) p;
@@ -113,6 +115,7 @@ module _ (setup : SetupState) (n life : ℕ) (H : Branches) (hist : IsHistory H)
           registered = l.registered;
           inside = l.inside;
           initial = l.initial;
+          came = l.came;
           points_on = l.points_on;
           life = l.life;
           earlier = λ y i p. l.earlier y (dropped_in s.asking a rest y i) p;
@@ -151,6 +154,7 @@ module _ (setup : SetupState) (n life : ℕ) (H : Branches) (hist : IsHistory H)
           registered = d.registered;
           inside = d.inside;
           initial = omega (arith, begins);
+          came = let later = h.rest_are.0.later in Synced (omega (arith, own, later)) (omega (arith, begins));
           points_on = λ q i e.
               let w : Version = point q.branch q.timestamp in
               let older : is_on H g key (origin_at d.birth g key) w ≡ true = subst (λ (u : Version). is_on H g key u w ≡ true) (sym origin) (l.points_on q i e) in

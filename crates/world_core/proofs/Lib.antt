@@ -57,6 +57,7 @@ pub mod Refusals
 pub mod RegisterStory
 pub mod Registered
 pub mod Requesting
+pub mod RowSteps
 pub mod Runs
 pub mod Setups
 pub mod ShardRoles
@@ -64,6 +65,8 @@ pub mod Single
 pub mod States
 pub mod Stays
 pub mod Steps
+pub mod StoredFirsts
+pub mod StoredLaws
 pub mod StoredMoves
 pub mod StoredPaths
 pub mod StoredRuns

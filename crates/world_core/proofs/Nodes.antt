@@ -9,7 +9,7 @@ use Rattle.region_map.specs.Maps.{Pieced, value_at}
 use Rattle.branch_history.specs.declared.version.Version.{Version}
 use Rattle.contract_types.specs.Setup.{SetupState}
 use Rattle.contract_types.specs.Tilings.{holders}
-use Rattle.store_api.specs.Rows.{Rows, value_of}
+use Rattle.store_api.specs.Rows.{Rows, row_of, value_in, value_of}
 use Rattle.store_api.specs.Versions.{point}
 use Rattle.secondary_exec.specs.declared.following.Following.{Following}
 use Rattle.primary_exec.specs.Execution.{Execution}
@@ -89,7 +89,7 @@ pub record NodeFacts (setup : SetupState) (past : List Entry) (n : ℕ) (rows : 
 -- rows and versions stay
 pub record StoreStays (hashes : ℕ) (count : ℕ → List ℕ → ℕ) (rows later : Rows) (versions newer : Pieced Version) : Type 0 where
   pub versions_stay : (h : ℕ) (k : List ℕ) → h < hashes → count h k ≡ 0 → value_at newer.pieces h k ≡ value_at versions.pieces h k
-  pub rows_stay : (key : List ℕ) → count (hash_of key hashes) key ≡ 0 → value_of later key ≡ value_of rows key
+  pub rows_stay : (key : List ℕ) → count (hash_of key hashes) key ≡ 0 → row_of later key ≡ row_of rows key
 
 -- the paths stay
 pub record PathsStay (setup : SetupState) (count : ℕ → List ℕ → ℕ) (past : List Entry) (e : Entry) : Type 0 where
@@ -104,7 +104,7 @@ kept setup past e count rows later versions newer x none s p f =
       branch = f.branch;
       stands = λ h k lt i. s.versions_stay h k lt (none h k i) ∙ f.stands h k lt i;
       store = λ key i.
-          s.rows_stay key (none (hash_of key setup.hashes) key i) ∙ f.store key i ∙ ap (after None) (sym (p.stays key (none (hash_of key setup.hashes) key i)));
+          ap value_in (s.rows_stay key (none (hash_of key setup.hashes) key i)) ∙ f.store key i ∙ ap (after None) (sym (p.stays key (none (hash_of key setup.hashes) key i)));
       waiting = WaitsWell-more setup past e x.dispatch.waiting f.waiting;
     }
 

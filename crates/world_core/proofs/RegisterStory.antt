@@ -13,8 +13,7 @@ use Rattle.exec_types.specs.declared.input.Input.TheVariants.{Request, GiveUp, S
 use Rattle.exec_types.specs.declared.outcome.Outcome.TheVariants.{Done, NotServing}
 use Rattle.node_core.specs.declared.journal.Entry.{Entry}
 use Rattle.world_core.specs.Story.{Point, IsIn, times, has_told, StandsOnce, stands_before, answer_in, or_else, answer, is_done_outcome, is_done, goes_before, points, points_of, same_key, is_shown, is_shown_point, is_shown_told, story, Requests, IsRequested, keep_done, up_to_done, IsRegisterStory}
-use Rattle.world_core.specs.Stored.{is_branch}
-use Rattle.world_core.proofs.Begun.{begun_branch, is_on_begun, begun_path, begun_story, KeepsBegun}
+use Rattle.world_core.proofs.Begun.{is_branch, begun_branch, is_on_begun, begun_path, begun_story, KeepsBegun}
 use Rattle.world_core.proofs.Told.{after, told, legal_told, told-append, LeavesReads, at_point, at_told, told-filter, filter-append, filter-filter, filter_stricter, IsIn-filter, IsIn-told, times-told, point_times-filter, has_point, has_told-told, stands_before-told, point_before, TookEffect, TookEffect-told}
 use Rattle.world_core.proofs.Facts.{same_op-refl, Requests-test, IsRequested-test, fresh_apart, History}
 use Rattle.world_core.proofs.Orders.{AddsAlong, History-along, in_order}

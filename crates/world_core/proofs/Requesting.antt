@@ -28,7 +28,7 @@ use Rattle.exec_types.specs.declared.outcome.Outcome.TheVariants.{NotServing}
 use Rattle.exec_types.specs.declared.output.Output.{Output}
 use Rattle.exec_types.specs.declared.output.Output.TheVariants.{Dispatched}
 use Rattle.store_api.specs.declared.Row.{Row}
-use Rattle.store_api.specs.Rows.{Rows, has_key, value_in, value_of, with_row}
+use Rattle.store_api.specs.Rows.{Rows, has_key, row_of, value_in, value_of, with_row}
 use Rattle.store_api.specs.Versions.{point, is_behind, comes_to, advanced_rows, advanced_map}
 use Rattle.store_api.proofs.RowLemmas.{row_of-with_row_same, row_of-with_row_other}
 use Rattle.store_api.proofs.VersionMaps.{advanced_map_hashes, advanced_map_at}
@@ -38,8 +38,7 @@ use Rattle.primary_exec.specs.Execution.{Execution, PrimaryStep, has_room, sends
 use Rattle.node_core.specs.declared.journal.Entry.{Entry}
 use Rattle.node_core.specs.Parts.{Requested, is_for, dispatched, passed_on, request_all}
 use Rattle.world_core.specs.Story.{Point, answer_in, or_else, points_in, same_key}
-use Rattle.world_core.specs.Stored.{is_branch}
-use Rattle.world_core.proofs.Begun.{begun_branch, is_on_begun, begun_path}
+use Rattle.world_core.proofs.Begun.{is_branch, begun_branch, is_on_begun, begun_path}
 use Rattle.world_core.proofs.Told.{after, after-append, TookEffect, TookEffect-last}
 use Rattle.world_core.proofs.Facts.{WaitsWell, WaitsWell-more, path-cons}
 use Rattle.world_core.proofs.Outs.{points_in-append, points_in-sends, answer_in-append, answer_in-sends, Answered, all_push}
@@ -74,13 +73,13 @@ keeps_state s Delete e = absurd (false≢true (sym e))
 keeps_state s (Cas expect put) e = ap (λ b. cond b put s) e
 keeps_state s Read e = refl
 
--- a key outside of the region keeps its value
-value_of-outside : (part : Part) (region : Region) (branch : Id) (at : ℕ) (versions : Pieced Version) (rows : Rows) (other : List ℕ) → has_key region versions.hashes other ≡ false
-    → value_of (advanced_rows (effect_of part) region branch at versions rows) other ≡ value_of rows other
-value_of-outside (Sync t) region branch at versions rows other out = refl
-value_of-outside (Write t key row) region branch at versions rows other out =
-    cond_both (comes_to region branch at versions key) (with_row rows key row) rows (λ (l : Rows). value_of l other ≡ value_of rows other)
-    (λ comes. ap value_in (row_of-with_row_other rows key other row (same_key_sym key other (apart_by (has_key region versions.hashes) key other (first_of_and _ _ comes) out))))
+-- a key outside of the region keeps its row
+row_of-outside : (part : Part) (region : Region) (branch : Id) (at : ℕ) (versions : Pieced Version) (rows : Rows) (other : List ℕ) → has_key region versions.hashes other ≡ false
+    → row_of (advanced_rows (effect_of part) region branch at versions rows) other ≡ row_of rows other
+row_of-outside (Sync t) region branch at versions rows other out = refl
+row_of-outside (Write t key row) region branch at versions rows other out =
+    cond_both (comes_to region branch at versions key) (with_row rows key row) rows (λ (l : Rows). row_of l other ≡ row_of rows other)
+    (λ comes. row_of-with_row_other rows key other row (same_key_sym key other (apart_by (has_key region versions.hashes) key other (first_of_and _ _ comes) out)))
     (λ _. refl)
   where
     first_of_and : (a b : Bool) → (a && b) ≡ true → a ≡ true
@@ -128,7 +127,7 @@ region_stays hashes part region branch at versions rows same =
           advanced_map_at region branch at versions h k (subst (λ n. h < n) (sym same) lt)
           ∙ ap (λ b. cond (b && is_behind branch at (value_at versions.pieces h k)) (Some (point branch at)) (value_at versions.pieces h k)) (outside (in_region region h k) none);
       rows_stay = λ key none.
-          value_of-outside part region branch at versions rows key
+          row_of-outside part region branch at versions rows key
           (ap (λ n. in_region region (hash_of key n) key) same ∙ outside (in_region region (hash_of key hashes) key) none);
     }
   where

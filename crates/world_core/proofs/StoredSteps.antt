@@ -1,5 +1,5 @@
 -- What a step of a node leaves of the rows, the executions and the followings of the node, and what it tells others.
-use Rattle.std.proofs.Common.{◌≡◌, ℕ, ◌+◌, ◌≤◌, ◌<◌, ◌==◌, Bool, true, false, cond, nat_lt, nat_le, List, [], ◌∷◌, ◌++◌, map, filter, refl, sym, ap, ◌∙◌, subst, ◌⊎◌, inl, inr, arith, append-nil}
+use Rattle.std.proofs.Common.{◌≡◌, ℕ, ◌+◌, ◌≤◌, ◌<◌, ◌==◌, Bool, true, false, cond, nat_lt, nat_le, List, [], ◌∷◌, ◌++◌, map, filter, Some, refl, sym, ap, ◌∙◌, subst, ◌⊎◌, inl, inr, arith, append-nil}
 use Rattle.std.proofs.lemmas.Bool.{false≢true, false_from_ne_true, cond_both, and_parts, eqb-true}
 use Rattle.std.specs.List.{AllByRecursion}
 use Rattle.region_map.specs.declared.id.Id.{Id}
@@ -9,6 +9,7 @@ use Rattle.region_map.specs.Keys.{hash_of}
 use Rattle.region_map.specs.Regions.{in_region}
 use Rattle.region_map.specs.Maps.{Pieced}
 use Rattle.branch_history.specs.declared.version.Version.{Version}
+use Rattle.contract_types.specs.Setup.{SetupState}
 use Rattle.register_laws.specs.declared.operation.OpId.{OpId}
 use Rattle.register_laws.specs.declared.operation.Op.{Op}
 use Rattle.register_laws.specs.Register.{State, state_after, writes}
@@ -23,20 +24,22 @@ use Rattle.exec_types.specs.declared.message.Stream.{Stream}
 use Rattle.exec_types.specs.declared.outcome.Outcome.TheVariants.{NotServing}
 use Rattle.exec_types.specs.declared.output.Output.{Output}
 use Rattle.exec_types.specs.declared.output.Output.TheVariants.{Message, Dispatched, Viewed, Answer}
-use Rattle.store_api.specs.Rows.{Rows, has_key, value_of}
-use Rattle.store_api.specs.Versions.{version_of, advanced_rows, advanced_map}
+use Rattle.store_api.specs.Rows.{Rows, has_key, row_of, value_of}
+use Rattle.store_api.specs.Versions.{point, version_of, advanced_rows, advanced_map}
 use Rattle.primary_exec.specs.declared.session.Session.{Session}
 use Rattle.primary_exec.specs.Execution.{Execution, PrimaryStep, has_room, with_sent, sends, part_of, dispatch_row}
 use Rattle.secondary_exec.specs.declared.following.Following.{Following}
 use Rattle.secondary_exec.specs.Stream.{FollowingStep, stream_row, is_ours, take_part, is_next, apply_part, acknowledgement, quiet}
 use Rattle.node_core.specs.Parts.{Requested, Streamed, is_for, dispatched, passed_on, request_all, taken as took, left_alone, stream_all}
-use Rattle.world_core.specs.Story.{Point, points_in}
+use Rattle.world_core.specs.Story.{Point, IsIn, points_in}
+use Rattle.world_core.proofs.Begun.{begun_branch}
 use Rattle.world_core.proofs.Outs.{points_in-append, points_in-sends}
-use Rattle.world_core.proofs.Setups.{exec_region, following_region}
+use Rattle.world_core.proofs.Setups.{following_region}
 use Rattle.world_core.proofs.Nodes.{holders-in, holders-rest}
+use Rattle.world_core.proofs.Told.{IsIn-right}
 use Rattle.world_core.proofs.Requesting.{point_at}
-use Rattle.world_core.proofs.StoredPaths.{same_id-true, same_id-self, taken, taken-own, taken-other, IsBelow, Grows, grows_same, grows_next}
-use Rattle.world_core.proofs.StoredMoves.{AllKept, kept_grown, Tells, tells_grown, tells_new, StandsAt, version_outside, version_inside, kept_moved}
+use Rattle.world_core.proofs.StoredPaths.{row_at, same_id-true, IsReached, IsAbove, reached_last, Grows, grows_same, grows_next}
+use Rattle.world_core.proofs.StoredMoves.{AllKept, kept_grown, Tells, tells_grown, tells_new, StandsAt, version_outside, version_inside, kept_outside, kept_moved}
 
 -- ---- lists with one member that changes
 
@@ -70,9 +73,10 @@ around P Q R [] x y after r step new h = (new, rest after r.0 h.1)
     rest (z ∷ zs) r h = (step z (inr r.0) h.0, rest zs r.1 h.1)
 around P Q R (z ∷ before) x y after r step new h = (step z (inl (all_middle (R z) before x after r.0)) h.0, around P Q R before x y after r.1 step new h.1)
 
-map_around : {A B : Type 0} (f : A → B) (before : List A) (x y : A) (after : List A) → f y ≡ f x → map f (before ++ y ∷ after) ≡ map f (before ++ x ∷ after)
-map_around f [] x y after e = λ i. e i ∷ map f after
-map_around f (z ∷ before) x y after e = λ i. f z ∷ map_around f before x y after e i
+-- one member changes, and the others keep what holds of them
+all_changed : {A : Type 0} (P Q : A → Type 0) (before : List A) (x y : A) (after : List A) → ((z : A) → P z → Q z) → Q y → AllByRecursion P (before ++ x ∷ after) → AllByRecursion Q (before ++ y ∷ after)
+all_changed P Q [] x y after step new h = (new, all_weaker P Q step after h.1)
+all_changed P Q (z ∷ before) x y after step new h = (step z h.0, all_changed P Q before x y after step new h.1)
 
 -- ---- the facts
 
@@ -80,22 +84,27 @@ map_around f (z ∷ before) x y after e = λ i. f z ∷ map_around f before x y 
 abbrev pub IsSessionOf : Id → ℕ → Session → Type 0
 IsSessionOf branch last s = (s.sent ≡ last + 1) × (s.name.opened ≡ branch)
 
--- an execution took a timestamp for each point of its branch, which is one of its node
-pub record Runs (ps : List Point) (n : ℕ) (x : Execution) : Type 0 where
-  pub last : x.last ≡ taken ps x.branch
-  pub own : x.branch.node.0 ≡ n
+-- an execution of the branch with which its shards begin, at a timestamp that was taken
+abbrev pub IsFirst : SetupState → List Point → Execution → Type 0
+IsFirst setup ps x = ((key : List ℕ) → is_for setup.hashes key x ≡ true → begun_branch setup key ≡ Some x.branch) × IsReached ps (point x.branch x.last)
+
+-- an execution that has sessions is such a one
+pub record Runs (setup : SetupState) (ps : List Point) (x : Execution) : Type 0 where
+  pub first : (x.sessions ≡ []) ⊎ IsFirst setup ps x
   pub sessions : AllByRecursion (IsSessionOf x.branch x.last) x.sessions
 
--- a following has a part for each timestamp up to its position, behind the first part, and its region stands there
-pub record Follows (hashes : ℕ) (versions : Pieced Version) (f : Following) : Type 0 where
+-- a following has a part for each timestamp up to its position, behind the first part, and its region stands there, which
+-- has kept keys alone
+pub record Follows (Q : List ℕ → Type 0) (hashes : ℕ) (versions : Pieced Version) (f : Following) : Type 0 where
   pub got : f.got ≡ f.position + 1
   pub opened : f.session.opened ≡ f.branch
   pub stands : StandsAt hashes versions f.region f.branch f.position
+  pub away : (key : List ℕ) → has_key f.region hashes key ≡ true → Q key
 
-pub record NodeKept (hashes : ℕ) (ps : List Point) (n : ℕ) (rows : Rows) (versions : Pieced Version) (xs : List Execution) (fs : List Following) : Type 0 where
-  pub kept : AllKept ps rows versions
-  pub runs : AllByRecursion (Runs ps n) xs
-  pub follows : AllByRecursion (Follows hashes versions) fs
+pub record NodeKept (Q : List ℕ → Type 0) (setup : SetupState) (ps : List Point) (rows : Rows) (versions : Pieced Version) (xs : List Execution) (fs : List Following) : Type 0 where
+  pub kept : AllKept Q setup ps rows versions
+  pub runs : AllByRecursion (Runs setup ps) xs
+  pub follows : AllByRecursion (Follows Q setup.hashes versions) fs
 
 -- a part tells of the point of its timestamp of the branch under whose id its session was opened
 pub record StreamTells (ps : List Point) (s : Stream) : Type 0 where
@@ -116,23 +125,28 @@ OutTells ps (Dispatched op key branch timestamp) = Unit {0}
 OutTells ps (Viewed first results) = Unit {0}
 OutTells ps (Answer op outcome) = Unit {0}
 
--- ---- more points, of another node or of none
+-- ---- more points
 
-pub stream_grown : (n : ℕ) (ps more : List Point) (s : Stream) → Grows n ps more → StreamTells ps s → StreamTells more s
-stream_grown n ps more s g t = record { at = t.at; number = t.number; time = t.time; tells = tells_grown n ps more s.session.opened t.at s.part g t.tells }
+pub stream_grown : (ps more : List Point) (s : Stream) → Grows ps more → StreamTells ps s → StreamTells more s
+stream_grown ps more s g t = record { at = t.at; number = t.number; time = t.time; tells = tells_grown ps more s.session.opened t.at s.part g t.tells }
 
-pub sent_grown : (n : ℕ) (ps more : List Point) → Grows n ps more → (m : Sent) → SentTells ps m → SentTells more m
-sent_grown n ps more g (message.Raft m) t = tt
-sent_grown n ps more g (message.Say contract ack) t = tt
-sent_grown n ps more g (message.Stream s) t = stream_grown n ps more s g t
-sent_grown n ps more g (message.Got got) t = tt
+pub sent_grown : (ps more : List Point) → Grows ps more → (m : Sent) → SentTells ps m → SentTells more m
+sent_grown ps more g (message.Raft m) t = tt
+sent_grown ps more g (message.Say contract ack) t = tt
+sent_grown ps more g (message.Stream s) t = stream_grown ps more s g t
+sent_grown ps more g (message.Got got) t = tt
 
-pub other_kept : (n m hashes : ℕ) (ps more : List Point) (rows : Rows) (versions : Pieced Version) (xs : List Execution) (fs : List Following) → (m ≡ n → ⊥) → Grows n ps more
-    → NodeKept hashes ps m rows versions xs fs → NodeKept hashes more m rows versions xs fs
-other_kept n m hashes ps more rows versions xs fs ne g h =
+runs_grown : (setup : SetupState) (ps more : List Point) (x : Execution) → Grows ps more → Runs setup ps x → Runs setup more x
+runs_grown setup ps more x g r =
+    record { first = elim r.first [ inl none ↦ inl none | inr f ↦ inr (f.0, g.reached (point x.branch x.last) f.1) ]; sessions = r.sessions }
+
+-- where another node moved
+pub other_kept : (Q : List ℕ → Type 0) (setup : SetupState) (ps more : List Point) (rows : Rows) (versions : Pieced Version) (xs : List Execution) (fs : List Following) → Grows ps more
+    → NodeKept Q setup ps rows versions xs fs → NodeKept Q setup more rows versions xs fs
+other_kept Q setup ps more rows versions xs fs g h =
     record {
-      kept = kept_grown n ps more rows versions g h.kept;
-      runs = all_weaker (Runs ps m) (Runs more m) (λ x r. record { last = r.last ∙ sym (g.others x.branch (λ e. ne (sym r.own ∙ e))); own = r.own; sessions = r.sessions }) xs h.runs;
+      kept = λ key away. kept_grown setup ps more rows versions key g (h.kept key away);
+      runs = all_weaker (Runs setup ps) (Runs setup more) (λ x r. runs_grown setup ps more x g r) xs h.runs;
       follows = h.follows;
     }
 
@@ -177,17 +191,10 @@ dispatch_points x rows versions op key what =
     ∙ ap (λ (l : List Point). l ++ point_at op key what x.branch (x.last + 1) ∷ []) (points_in-sends what part sessions)
 
 -- what is kept after a row, in a history that the row's points are in
-pub record RowKept (hashes : ℕ) (ps more : List Point) (n : ℕ) (rows : Rows) (versions : Pieced Version) (xs : List Execution) (fs : List Following) (outs : List Output) : Type 0 where
-  pub grows : Grows n ps more
-  pub node : NodeKept hashes more n rows versions xs fs
+pub record RowKept (Q : List ℕ → Type 0) (setup : SetupState) (ps more : List Point) (rows : Rows) (versions : Pieced Version) (xs : List Execution) (fs : List Following) (outs : List Output) : Type 0 where
+  pub grows : Grows ps more
+  pub node : NodeKept Q setup more rows versions xs fs
   pub tells : AllByRecursion (OutTells more) outs
-
--- two executions with two branches
-abbrev pub BranchesApart : Execution → Execution → Type 0
-BranchesApart x y = same_id x.branch y.branch ≡ false
-
-turned : (a b : Id) → same_id a b ≡ false → same_id b a ≡ false
-turned a b e = false_from_ne_true (same_id b a) (λ is. false≢true (sym e ∙ ap (same_id a) (same_id-true b a is) ∙ same_id-self a))
 
 all_filter : {A : Type 0} (P : A → Type 0) (q : A → Bool) (xs : List A) → AllByRecursion P xs → AllByRecursion P (filter q xs)
 all_filter P q [] h = tt
@@ -206,109 +213,83 @@ session_tells ps branch last part ss time t h =
     let sent = is.0 in
     record { at = last; number = omega (arith, sent); time = time; tells = subst (λ b. Tells ps b last part) (sym is.1) t }) ss h
 
--- a following keeps where it stands while a region apart from its own moves
-follows_outside : (hashes : ℕ) (region : Region) (versions newer : Pieced Version) (fs : List Following) → ((h : ℕ) (k : List ℕ) → cond (in_region region h k) 1 0 + holders following_region fs h k ≤ 1)
-    → ((key : List ℕ) → has_key region hashes key ≡ false → version_of newer key ≡ version_of versions key)
-    → AllByRecursion (Follows hashes versions) fs → AllByRecursion (Follows hashes newer) fs
-follows_outside hashes region versions newer [] one stay h = tt
-follows_outside hashes region versions newer (f ∷ fs) one stay h = (
-  record {
-    got = h.0.got;
-    opened = h.0.opened;
-    stands = λ key has.
-        let two = one (hash_of key hashes) key in
-        let here = holders-in following_region f fs (hash_of key hashes) key has in
-        stay key (outside (in_region region (hash_of key hashes) key) (omega (arith, two, here))) ∙ h.0.stands key has;
-  },
-  follows_outside hashes region versions newer fs (λ h k. let two = one h k in let more = holders-rest following_region f fs h k in omega (arith, two, more)) stay h.1,
-)
-  where
-    outside : (b : Bool) → ◌≤◌ (cond b 1 0) 0 → b ≡ false
-    outside true e = absurd (omega arith)
-    outside false e = refl
+-- a following keeps where it stands while a region without kept keys moves
+pub follows_outside : (Q : List ℕ → Type 0) (hashes : ℕ) (versions newer : Pieced Version) → ((key : List ℕ) → Q key → version_of newer key ≡ version_of versions key)
+    → (fs : List Following) → AllByRecursion (Follows Q hashes versions) fs → AllByRecursion (Follows Q hashes newer) fs
+follows_outside Q hashes versions newer stay fs h =
+    all_weaker (Follows Q hashes versions) (Follows Q hashes newer)
+    (λ f k. record { got = k.got; opened = k.opened; stands = λ key has. stay key (k.away key has) ∙ k.stands key has; away = k.away }) fs h
 
-dispatch_kept : (hashes : ℕ) (ps : List Point) (n : ℕ) (rows : Rows) (versions : Pieced Version) (before : List Execution) (x : Execution) (after : List Execution) (fs : List Following) (op : OpId) (key : List ℕ) (what : Op)
-    → 0 < hashes → versions.hashes ≡ hashes → StandsAt hashes versions x.contract.region x.branch x.last → is_for hashes key x ≡ true
-    → ((h : ℕ) (k : List ℕ) → cond (in_region x.contract.region h k) 1 0 + holders following_region fs h k ≤ 1) → Pairs BranchesApart (before ++ x ∷ after) → AllByRecursion (IsBelow ps) ps
-    → NodeKept hashes ps n rows versions (before ++ x ∷ after) fs
-    → RowKept hashes ps (ps ++ point_at op key what x.branch (x.last + 1) ∷ []) n (dispatch_row x rows versions op key what).rows (dispatch_row x rows versions op key what).versions
+dispatch_kept : (Q : List ℕ → Type 0) (setup : SetupState) (ps : List Point) (rows : Rows) (versions : Pieced Version) (before : List Execution) (x : Execution) (after : List Execution) (fs : List Following)
+    (op : OpId) (key : List ℕ) (what : Op) → 0 < setup.hashes → versions.hashes ≡ setup.hashes → ((k : List ℕ) → Q k → is_for setup.hashes k x ≡ false)
+    → (IsFirst setup ps x → row_of rows key ≡ row_at ps key (point x.branch x.last)) → IsAbove ps (point_at op key what x.branch (x.last + 1)) → NodeKept Q setup ps rows versions (before ++ x ∷ after) fs
+    → RowKept Q setup ps (ps ++ point_at op key what x.branch (x.last + 1) ∷ []) (dispatch_row x rows versions op key what).rows (dispatch_row x rows versions op key what).versions
     (before ++ (dispatch_row x rows versions op key what).execution ∷ after) fs (dispatch_row x rows versions op key what).outs
-dispatch_kept hashes ps n rows versions before x after fs op key what some same stands has one apart below h =
+dispatch_kept Q setup ps rows versions before x after fs op key what some same apart row_is new h =
     let region : Region = x.contract.region in
     let part : Part = part_of (value_of rows key) (x.last + 1) key what in
     let row : PrimaryStep = dispatch_row x rows versions op key what in
     let q : Point = point_at op key what x.branch (x.last + 1) in
     let more : List Point = ps ++ q ∷ [] in
-    let sessions : List Session = filter has_room x.sessions in
-    let own : Runs ps n x = all_middle (Runs ps n) before x after h.runs in
-    let last = own.last in
-    let time : x.last + 1 ≡ taken ps x.branch + 1 = omega (arith, last) in
-    let g : Grows n ps more = grows_next n ps q own.own time in
-    let t : Tells more x.branch x.last part = tells_new n ps q x.last rows versions own.own below own.last refl h.kept (stands key has) in
+    let own : Runs setup ps x = all_middle (Runs setup ps) before x after h.runs in
+    let up : 0 < x.last + 1 = omega arith in
+    let g : Grows ps more = grows_next ps q new up in
     let some_too : 0 < versions.hashes = omega (arith, some, same) in
-    let stands_too = subst (λ c. StandsAt c versions region x.branch x.last) (sym same) stands in
+    let out = λ (k : List ℕ) (away : Q k). ap (λ c. has_key region c k) same ∙ apart k away in
     let with_room = all_filter (IsSessionOf x.branch x.last) has_room x.sessions own.sessions in
     record {
       grows = g;
       node =
           record {
-            kept = kept_moved region x.branch x.last part rows versions more some_too stands_too t (kept_grown n ps more rows versions g h.kept);
+            kept = λ k away.
+                kept_outside region x.branch x.last part rows versions setup more k some_too (value_of rows key) key what refl (out k away) (kept_grown setup ps more rows versions k g (h.kept k away));
             runs =
-                around (Runs ps n) (Runs more n) BranchesApart before x row.execution after apart
-                (λ z r k.
-                let ne : same_id z.branch x.branch ≡ false = elim r [ inl e ↦ e | inr e ↦ turned x.branch z.branch e ] in
-                record { last = k.last ∙ sym (taken-other ps q z.branch ne); own = k.own; sessions = k.sessions })
+                all_changed (Runs setup ps) (Runs setup more) before x row.execution after (λ z r. runs_grown setup ps more z g r)
                 (record {
-                  last = let all = taken-own ps q in omega (arith, all, time);
-                  own = own.own;
-                  sessions = all_step (IsSessionOf x.branch x.last) (IsSessionOf x.branch (x.last + 1)) with_sent (λ s is. let sent = is.0 in (omega (arith, sent), is.1)) sessions with_room;
+                  first = elim own.first [
+                    | inl none ↦ inl (ap (λ (ss : List Session). map with_sent (filter has_room ss)) none)
+                    | inr f ↦ inr (f.0, reached_last ps q)
+                  ];
+                  sessions = all_step (IsSessionOf x.branch x.last) (IsSessionOf x.branch (x.last + 1)) with_sent (λ s is. let sent = is.0 in (omega (arith, sent), is.1)) (filter has_room x.sessions) with_room;
                 })
                 h.runs;
-            follows = follows_outside hashes region versions row.versions fs one
-                (λ k out. version_outside region x.branch x.last part rows versions k some_too (ap (λ c. has_key region c k) same ∙ out)) h.follows;
+            follows = follows_outside Q setup.hashes versions row.versions (λ k away. version_outside region x.branch x.last part rows versions k some_too (out k away)) fs h.follows;
           };
-      tells = all_append (OutTells more) (map (sends part) sessions) (Dispatched op key x.branch (x.last + 1) ∷ [])
-          (session_tells more x.branch x.last part sessions (part_time (value_of rows key) (x.last + 1) key what) t with_room) (tt, tt);
+      tells = all_append (OutTells more) (map (sends part) (filter has_room x.sessions)) (Dispatched op key x.branch (x.last + 1) ∷ [])
+          (elim own.first [
+            | inl none ↦ subst (λ (ss : List Session). AllByRecursion (OutTells more) (map (sends part) (filter has_room ss))) (sym none) tt
+            | inr f ↦
+                session_tells more x.branch x.last part (filter has_room x.sessions) (part_time (value_of rows key) (x.last + 1) key what)
+                (tells_new ps q x.last rows new refl f.1 (row_is f)) with_room
+          ])
+          (tt, tt);
     }
 
 -- a row without a point
-pub still_row : (hashes : ℕ) (ps more : List Point) (n : ℕ) (rows : Rows) (versions : Pieced Version) (xs : List Execution) (fs : List Following) (outs : List Output) → more ≡ ps
-    → NodeKept hashes ps n rows versions xs fs → AllByRecursion (OutTells ps) outs → RowKept hashes ps more n rows versions xs fs outs
-still_row hashes ps more n rows versions xs fs outs same h t =
-    subst (λ l. RowKept hashes ps l n rows versions xs fs outs) (sym same) (record { grows = grows_same n ps; node = h; tells = t })
+pub still_row : (Q : List ℕ → Type 0) (setup : SetupState) (ps more : List Point) (rows : Rows) (versions : Pieced Version) (xs : List Execution) (fs : List Following) (outs : List Output) → more ≡ ps
+    → NodeKept Q setup ps rows versions xs fs → AllByRecursion (OutTells ps) outs → RowKept Q setup ps more rows versions xs fs outs
+still_row Q setup ps more rows versions xs fs outs same h t =
+    subst (λ l. RowKept Q setup ps l rows versions xs fs outs) (sym same) (record { grows = grows_same ps; node = h; tells = t })
 
-one_of : (before : List Execution) (x : Execution) (after : List Execution) (h : ℕ) (k : List ℕ) → cond (in_region x.contract.region h k) 1 0 ≤ holders exec_region (before ++ x ∷ after) h k
-one_of [] x after h k = let rest = holders-rest exec_region x after h k in omega (arith, rest)
-one_of (z ∷ before) x after h k =
-    let rest = holders-rest exec_region z (before ++ x ∷ after) h k in
-    let more = one_of before x after h k in
-    omega (arith, rest, more)
-
-abbrev pub ExecutionStands : ℕ → Pieced Version → Execution → Type 0
-ExecutionStands hashes versions x = StandsAt hashes versions x.contract.region x.branch x.last
-
-pub request_kept : (hashes : ℕ) (ps : List Point) (n : ℕ) (rows : Rows) (versions : Pieced Version) (xs : List Execution) (fs : List Following) (op : OpId) (key : List ℕ) (what : Op)
-    → 0 < hashes → versions.hashes ≡ hashes → AllByRecursion (ExecutionStands hashes versions) xs
-    → ((h : ℕ) (k : List ℕ) → holders exec_region xs h k + holders following_region fs h k ≤ 1) → Pairs BranchesApart xs → AllByRecursion (IsBelow ps) ps
-    → NodeKept hashes ps n rows versions xs fs
-    → RowKept hashes ps (ps ++ points_in what (request_all hashes xs rows versions op key what).outs) n (request_all hashes xs rows versions op key what).rows
-    (request_all hashes xs rows versions op key what).versions (request_all hashes xs rows versions op key what).executions fs (request_all hashes xs rows versions op key what).outs
-request_kept hashes ps n rows versions xs fs op key what some same stands one apart below h =
-    let P : Requested → Type 0 = λ r. RowKept hashes ps (ps ++ points_in what r.outs) n r.rows r.versions r.executions fs r.outs in
-    elim (request_moves hashes xs rows versions op key what) [
-      | inl e ↦ subst P (sym e) (still_row hashes ps (ps ++ []) n rows versions xs fs (Answer op NotServing ∷ []) (append-nil ps) h (tt, tt))
+pub request_kept : (Q : List ℕ → Type 0) (setup : SetupState) (ps : List Point) (rows : Rows) (versions : Pieced Version) (xs : List Execution) (fs : List Following) (op : OpId) (key : List ℕ) (what : Op)
+    → 0 < setup.hashes → versions.hashes ≡ setup.hashes → ((x : Execution) → IsIn xs x → (k : List ℕ) → Q k → is_for setup.hashes k x ≡ false)
+    → ((x : Execution) → IsIn xs x → is_for setup.hashes key x ≡ true → IsFirst setup ps x → row_of rows key ≡ row_at ps key (point x.branch x.last))
+    → ((q : Point) → points_in what (request_all setup.hashes xs rows versions op key what).outs ≡ q ∷ [] → IsAbove ps q) → NodeKept Q setup ps rows versions xs fs
+    → RowKept Q setup ps (ps ++ points_in what (request_all setup.hashes xs rows versions op key what).outs) (request_all setup.hashes xs rows versions op key what).rows
+    (request_all setup.hashes xs rows versions op key what).versions (request_all setup.hashes xs rows versions op key what).executions fs (request_all setup.hashes xs rows versions op key what).outs
+request_kept Q setup ps rows versions xs fs op key what some same apart row_is new h =
+    let P : Requested → Type 0 = λ r. RowKept Q setup ps (ps ++ points_in what r.outs) r.rows r.versions r.executions fs r.outs in
+    elim (request_moves setup.hashes xs rows versions op key what) [
+      | inl e ↦ subst P (sym e) (still_row Q setup ps (ps ++ []) rows versions xs fs (Answer op NotServing ∷ []) (append-nil ps) h (tt, tt))
       | inr m ↦
           let row : PrimaryStep = dispatch_row m.x rows versions op key what in
-          let here = all_middle (ExecutionStands hashes versions) m.before m.x m.after (subst (AllByRecursion (ExecutionStands hashes versions)) m.these stands) in
-          let one_here = λ (a : ℕ) (k : List ℕ).
-          let two = one a k in
-          let mine = one_of m.before m.x m.after a k in
-          let these = ap (λ l. holders exec_region l a k) m.these in
-          let few : cond (in_region m.x.contract.region a k) 1 0 + holders following_region fs a k ≤ 1 = omega (arith, two, mine, these) in few in
-          let kept = dispatch_kept hashes ps n rows versions m.before m.x m.after fs op key what some same here m.has one_here (subst (Pairs BranchesApart) m.these apart) below
-          (subst (λ l. NodeKept hashes ps n rows versions l fs) m.these h) in
+          let q : Point = point_at op key what m.x.branch (m.x.last + 1) in
+          let here : IsIn xs m.x = subst (λ (l : List Execution). IsIn l m.x) (sym m.these) (IsIn-right m.before (m.x ∷ m.after) m.x (inl refl)) in
+          let points : points_in what (request_all setup.hashes xs rows versions op key what).outs ≡ q ∷ [] = ap (λ (r : Requested). points_in what r.outs) m.all ∙ dispatch_points m.x rows versions op key what in
+          let kept = dispatch_kept Q setup ps rows versions m.before m.x m.after fs op key what some same (apart m.x here) (row_is m.x here m.has) (new q points)
+          (subst (λ l. NodeKept Q setup ps rows versions l fs) m.these h) in
           subst P (sym m.all)
-          (subst (λ l. RowKept hashes ps (ps ++ l) n row.rows row.versions (m.before ++ row.execution ∷ m.after) fs row.outs) (sym (dispatch_points m.x rows versions op key what)) kept)
+          (subst (λ l. RowKept Q setup ps (ps ++ l) row.rows row.versions (m.before ++ row.execution ∷ m.after) fs row.outs) (sym (dispatch_points m.x rows versions op key what)) kept)
     ]
 
 -- ---- parts of streams
@@ -317,28 +298,28 @@ abbrev moved_stream : List Following → FollowingStep → List Following → St
 moved_stream before step after = record { followings = before ++ step.following ∷ after; rows = step.rows; versions = step.versions; outs = step.outs }
 
 -- one following takes the part
-record StreamMoves (fs : List Following) (rows : Rows) (versions : Pieced Version) (from : NodeId) (stream : Stream) (r : Streamed) : Type 0 where
+record StreamMoves (fs : List Following) (rows : Rows) (versions : Pieced Version) (from : NodeId) (stream : Stream) (view : ℕ) (r : Streamed) : Type 0 where
   before : List Following
   f : Following
   after : List Following
   these : fs ≡ before ++ f ∷ after
   ours : is_ours f from stream ≡ true
-  all : r ≡ moved_stream before (stream_row f rows versions from stream 0) after
+  all : r ≡ moved_stream before (stream_row f rows versions from stream view) after
 
 -- or none does
 abbrev unheard : List Following → Rows → Pieced Version → Streamed
 unheard fs rows versions = record { followings = fs; rows = rows; versions = versions; outs = [] }
 
-stream_moves : (fs : List Following) (rows : Rows) (versions : Pieced Version) (from : NodeId) (stream : Stream)
-    → (stream_all fs rows versions from stream 0 ≡ unheard fs rows versions) ⊎ StreamMoves fs rows versions from stream (stream_all fs rows versions from stream 0)
-stream_moves [] rows versions from stream = inl refl
-stream_moves (f ∷ fs) rows versions from stream =
-    let rest : Streamed = stream_all fs rows versions from stream 0 in
-    let first : FollowingStep = stream_row f rows versions from stream 0 in
-    let M : Streamed → Type 0 = λ r. (r ≡ unheard (f ∷ fs) rows versions) ⊎ StreamMoves (f ∷ fs) rows versions from stream r in
+stream_moves : (fs : List Following) (rows : Rows) (versions : Pieced Version) (from : NodeId) (stream : Stream) (view : ℕ)
+    → (stream_all fs rows versions from stream view ≡ unheard fs rows versions) ⊎ StreamMoves fs rows versions from stream view (stream_all fs rows versions from stream view)
+stream_moves [] rows versions from stream view = inl refl
+stream_moves (f ∷ fs) rows versions from stream view =
+    let rest : Streamed = stream_all fs rows versions from stream view in
+    let first : FollowingStep = stream_row f rows versions from stream view in
+    let M : Streamed → Type 0 = λ r. (r ≡ unheard (f ∷ fs) rows versions) ⊎ StreamMoves (f ∷ fs) rows versions from stream view r in
     cond_both (is_ours f from stream) (took first fs) (left_alone f rest) M
     (λ ours. inr (record { before = []; f = f; after = fs; these = refl; ours = ours; all = refl }))
-    (λ _. elim (stream_moves fs rows versions from stream) [
+    (λ _. elim (stream_moves fs rows versions from stream view) [
       | inl e ↦ inl (ap (left_alone f) e)
       | inr m ↦ inr (record { before = f ∷ m.before; f = m.f; after = m.after; these = ap (λ l. f ∷ l) m.these; ours = m.ours; all = ap (left_alone f) m.all })
     ])
@@ -366,16 +347,17 @@ regions_apart hashes (f ∷ fs) one = (
     )
 
 -- what is kept after a following's row
-record PartKept (hashes : ℕ) (ps : List Point) (n : ℕ) (xs : List Execution) (before after : List Following) (step : FollowingStep) : Type 0 where
-  node : NodeKept hashes ps n step.rows step.versions xs (before ++ step.following ∷ after)
+record PartKept (Q : List ℕ → Type 0) (setup : SetupState) (ps : List Point) (xs : List Execution) (before after : List Following) (step : FollowingStep) : Type 0 where
+  node : NodeKept Q setup ps step.rows step.versions xs (before ++ step.following ∷ after)
   tells : AllByRecursion (OutTells ps) step.outs
 
 -- the next part is applied at the timestamp that it has
-apply_kept : (hashes : ℕ) (ps : List Point) (n : ℕ) (rows : Rows) (versions : Pieced Version) (xs : List Execution) (before : List Following) (f : Following) (after : List Following) (stream : Stream)
-    → 0 < hashes → versions.hashes ≡ hashes → Pairs (RegionsApart hashes) (before ++ f ∷ after) → stream.session.opened ≡ f.session.opened → stream.number ≡ f.got + 1 → StreamTells ps stream
-    → NodeKept hashes ps n rows versions xs (before ++ f ∷ after) → PartKept hashes ps n xs before after (apply_part f rows versions stream 0)
-apply_kept hashes ps n rows versions xs before f after stream some same apart ours next t h =
-    let own : Follows hashes versions f = all_middle (Follows hashes versions) before f after h.follows in
+apply_kept : (Q : List ℕ → Type 0) (setup : SetupState) (ps : List Point) (rows : Rows) (versions : Pieced Version) (xs : List Execution) (before : List Following) (f : Following) (after : List Following) (stream : Stream) (view : ℕ)
+    → 0 < setup.hashes → versions.hashes ≡ setup.hashes → Pairs (RegionsApart setup.hashes) (before ++ f ∷ after) → stream.session.opened ≡ f.session.opened → stream.number ≡ f.got + 1 → StreamTells ps stream
+    → NodeKept Q setup ps rows versions xs (before ++ f ∷ after) → PartKept Q setup ps xs before after (apply_part f rows versions stream view)
+apply_kept Q setup ps rows versions xs before f after stream view some same apart ours next t h =
+    let hashes : ℕ = setup.hashes in
+    let own : Follows Q hashes versions f = all_middle (Follows Q hashes versions) before f after h.follows in
     let got = own.got in
     let number = t.number in
     let place : t.at ≡ f.position = omega (arith, got, number, next) in
@@ -386,12 +368,12 @@ apply_kept hashes ps n rows versions xs before f after stream some same apart ou
     let stands_too = subst (λ c. StandsAt c versions f.region f.branch f.position) (sym same) own.stands in
     let has_too = λ (k : List ℕ) (b : Bool) (e : has_key f.region hashes k ≡ b). ap (λ c. has_key f.region c k) same ∙ e in
     let newer : Pieced Version = advanced_map f.region f.branch (f.position + 1) versions in
-    let node : NodeKept hashes ps n (advanced_rows (effect_of stream.part) f.region f.branch (f.position + 1) versions rows) newer xs (before ++ record f { got = stream.number; position = f.position + 1 } ∷ after) =
+    let node : NodeKept Q setup ps (advanced_rows (effect_of stream.part) f.region f.branch (f.position + 1) versions rows) newer xs (before ++ record f { got = stream.number; position = f.position + 1 } ∷ after) =
     record {
-      kept = kept_moved f.region f.branch f.position stream.part rows versions ps some_too stands_too tells h.kept;
+      kept = kept_moved f.region f.branch f.position stream.part rows versions Q setup ps some_too stands_too tells h.kept;
       runs = h.runs;
       follows =
-          around (Follows hashes versions) (Follows hashes newer) (RegionsApart hashes) before f (record f { got = stream.number; position = f.position + 1 }) after apart
+          around (Follows Q hashes versions) (Follows Q hashes newer) (RegionsApart hashes) before f (record f { got = stream.number; position = f.position + 1 }) after apart
           (λ g r k. record {
             got = k.got;
             opened = k.opened;
@@ -401,48 +383,51 @@ apply_kept hashes ps n rows versions xs before f after stream some same apart ou
                   | inr a ↦ false_from_ne_true (has_key f.region hashes key) (λ is. false≢true (sym (a key is) ∙ has))
                 ] in
                 version_outside f.region f.branch f.position stream.part rows versions key some_too (has_too key false out) ∙ k.stands key has;
+            away = k.away;
           })
           (record {
             got = omega (arith, got, next);
             opened = own.opened;
             stands = λ key has. version_inside f.region f.branch f.position stream.part rows versions key some_too stands_too (has_too key true has);
+            away = own.away;
           })
           h.follows;
     } in
-    subst (λ a. PartKept hashes ps n xs before after (record {
+    subst (λ a. PartKept Q setup ps xs before after (record {
       following = record f { got = stream.number; position = a };
       rows = advanced_rows (effect_of stream.part) f.region f.branch a versions rows;
       versions = advanced_map f.region f.branch a versions;
-      outs = acknowledgement (record f { got = stream.number; position = a }) 0 ∷ [];
+      outs = acknowledgement (record f { got = stream.number; position = a }) view ∷ [];
     })) (sym time) (record { node = node; tells = (tt, tt) })
 
-part_kept : (hashes : ℕ) (ps : List Point) (n : ℕ) (rows : Rows) (versions : Pieced Version) (xs : List Execution) (before : List Following) (f : Following) (after : List Following) (from : NodeId) (stream : Stream)
-    → 0 < hashes → versions.hashes ≡ hashes → Pairs (RegionsApart hashes) (before ++ f ∷ after) → is_ours f from stream ≡ true → StreamTells ps stream
-    → NodeKept hashes ps n rows versions xs (before ++ f ∷ after) → PartKept hashes ps n xs before after (stream_row f rows versions from stream 0)
-part_kept hashes ps n rows versions xs before f after from stream some same apart ours t h =
-    let P : FollowingStep → Type 0 = PartKept hashes ps n xs before after in
+part_kept : (Q : List ℕ → Type 0) (setup : SetupState) (ps : List Point) (rows : Rows) (versions : Pieced Version) (xs : List Execution) (before : List Following) (f : Following) (after : List Following) (from : NodeId) (stream : Stream) (view : ℕ)
+    → 0 < setup.hashes → versions.hashes ≡ setup.hashes → Pairs (RegionsApart setup.hashes) (before ++ f ∷ after) → is_ours f from stream ≡ true → StreamTells ps stream
+    → NodeKept Q setup ps rows versions xs (before ++ f ∷ after) → PartKept Q setup ps xs before after (stream_row f rows versions from stream view)
+part_kept Q setup ps rows versions xs before f after from stream view some same apart ours t h =
+    let P : FollowingStep → Type 0 = PartKept Q setup ps xs before after in
     let silent' : P (quiet f rows versions) = record { node = h; tells = tt } in
-    let again : FollowingStep = record { following = f; rows = rows; versions = versions; outs = acknowledgement f 0 ∷ [] } in
-    let next : FollowingStep = apply_part f rows versions stream 0 in
+    let again : FollowingStep = record { following = f; rows = rows; versions = versions; outs = acknowledgement f view ∷ [] } in
+    let next : FollowingStep = apply_part f rows versions stream view in
     let opened = and_parts (same_id stream.session.asked f.session.asked) (same_id stream.session.opened f.session.opened)
     (and_parts (from.0 == f.primary.0) (same_session stream.session f.session) ours).1 in
-    cond_both (is_ours f from stream) (take_part f rows versions stream 0) (quiet f rows versions) P
+    cond_both (is_ours f from stream) (take_part f rows versions stream view) (quiet f rows versions) P
     (λ _. cond_both (nat_le stream.number f.got) again (cond (is_next f stream) next (quiet f rows versions)) P (λ _. record { node = h; tells = (tt, tt) })
     (λ _. cond_both (is_next f stream) next (quiet f rows versions) P
-    (λ is. apply_kept hashes ps n rows versions xs before f after stream some same apart (same_id-true stream.session.opened f.session.opened opened.1)
+    (λ is. apply_kept Q setup ps rows versions xs before f after stream view some same apart (same_id-true stream.session.opened f.session.opened opened.1)
     (eqb-true stream.number (f.got + 1) (and_parts (stream.number == f.got + 1) (nat_lt f.position (timestamp_of stream.part)) is).0) t h)
     (λ _. silent')))
     (λ _. silent')
 
-pub stream_kept : (hashes : ℕ) (ps : List Point) (n : ℕ) (rows : Rows) (versions : Pieced Version) (xs : List Execution) (fs : List Following) (from : NodeId) (stream : Stream)
-    → 0 < hashes → versions.hashes ≡ hashes → ((h : ℕ) (k : List ℕ) → holders following_region fs h k ≤ 1) → StreamTells ps stream → NodeKept hashes ps n rows versions xs fs
-    → RowKept hashes ps ps n (stream_all fs rows versions from stream 0).rows (stream_all fs rows versions from stream 0).versions xs (stream_all fs rows versions from stream 0).followings (stream_all fs rows versions from stream 0).outs
-stream_kept hashes ps n rows versions xs fs from stream some same one t h =
-    let P : Streamed → Type 0 = λ r. RowKept hashes ps ps n r.rows r.versions xs r.followings r.outs in
-    elim (stream_moves fs rows versions from stream) [
-      | inl e ↦ subst P (sym e) (record { grows = grows_same n ps; node = h; tells = tt })
+pub stream_kept : (Q : List ℕ → Type 0) (setup : SetupState) (ps : List Point) (rows : Rows) (versions : Pieced Version) (xs : List Execution) (fs : List Following) (from : NodeId) (stream : Stream) (view : ℕ)
+    → 0 < setup.hashes → versions.hashes ≡ setup.hashes → ((h : ℕ) (k : List ℕ) → holders following_region fs h k ≤ 1) → StreamTells ps stream → NodeKept Q setup ps rows versions xs fs
+    → RowKept Q setup ps ps (stream_all fs rows versions from stream view).rows (stream_all fs rows versions from stream view).versions xs (stream_all fs rows versions from stream view).followings
+    (stream_all fs rows versions from stream view).outs
+stream_kept Q setup ps rows versions xs fs from stream view some same one t h =
+    let P : Streamed → Type 0 = λ r. RowKept Q setup ps ps r.rows r.versions xs r.followings r.outs in
+    elim (stream_moves fs rows versions from stream view) [
+      | inl e ↦ subst P (sym e) (record { grows = grows_same ps; node = h; tells = tt })
       | inr m ↦
-          let kept = part_kept hashes ps n rows versions xs m.before m.f m.after from stream some same (subst (Pairs (RegionsApart hashes)) m.these (regions_apart hashes fs one)) m.ours t
-          (subst (λ l. NodeKept hashes ps n rows versions xs l) m.these h) in
-          subst P (sym m.all) (record { grows = grows_same n ps; node = kept.node; tells = kept.tells })
+          let kept = part_kept Q setup ps rows versions xs m.before m.f m.after from stream view some same (subst (Pairs (RegionsApart setup.hashes)) m.these (regions_apart setup.hashes fs one)) m.ours t
+          (subst (λ l. NodeKept Q setup ps rows versions xs l) m.these h) in
+          subst P (sym m.all) (record { grows = grows_same ps; node = kept.node; tells = kept.tells })
     ]

@@ -1,22 +1,19 @@
 //! What holds of runs. "Such a run" is one of requests, deliveries and operations that are given up alone: in it no node
 //! ticks, goes down or comes up.
-ghost use Rattle.std.specs.Prelude.{◌≡◌, ◌≤◌, ◌<◌, ◌&&◌, ℕ, List, Some, None, IsTrue, true, false, is_some};
+ghost use Rattle.std.specs.Prelude.{◌≡◌, ◌≤◌, ◌<◌, ◌&&◌, ℕ, List, Some, IsTrue, true, false};
 ghost use Rattle.std.specs.List.{list_any};
 ghost use Rattle.contract_types.specs.Setup.{SetupState, IsSetup};
 ghost use Rattle.register_laws.specs.declared.operation.OpId.{OpId};
 ghost use Rattle.contract_types.specs.declared.counts.Counts.{Counts};
 ghost use Rattle.exec_types.specs.declared.outcome.Outcome.TheVariants.{NotServing, NoMajority};
-ghost use Rattle.branch_history.specs.declared.version.Version.{Version};
-ghost use Rattle.store_api.specs.Rows.{has_key, row_of};
-ghost use Rattle.store_api.specs.Versions.{version_of};
+ghost use Rattle.store_api.specs.Rows.{has_key};
 ghost use Rattle.node_core.specs.declared.journal.Entry.{Entry};
 ghost use Rattle.node_core.specs.Step.{is_led, serves};
 ghost use Rattle.world_core.specs.declared.envelope.Envelope.{Envelope};
 ghost use Rattle.world_core.specs.Quiet.{are_quiet};
 ghost use Rattle.world_core.specs.Run.{IsRun, is_requested, message_at, state};
-ghost use Rattle.world_core.specs.Story.{IsRegisterStory, story, path, answer, is_answered};
+ghost use Rattle.world_core.specs.Story.{IsRegisterStory, story, answer, is_answered};
 ghost use Rattle.world_core.specs.Served.{IsNotServed};
-ghost use Rattle.world_core.specs.Stored.{row_after, path_row};
 ghost use Rattle.world_core.specs.GivenUp.{IsGivenUp};
 ghost use Rattle.world_core.specs.Answers.{answers_to};
 ghost use Rattle.write_dispatch.specs.Dispatch.{are_majorities};
@@ -69,19 +66,4 @@ pub fn messages_of_runs()
         → (number : ℕ) (message : Envelope) → message_at past number ≡ Some message → message.from.0 < setup.nodes }
     ensures to { (setup : SetupState) → IsSetup setup → (past : List Entry) → IsRun setup past → are_quiet past ≡ true
         → (number : ℕ) (message : Envelope) → message_at past number ≡ Some message → message.to.0 < setup.nodes }
-{}
-
-/// In every such run, each key has a version at each node, and its row there is what the operations on it left that lie on
-/// the path of that version: a put, a deletion and a compare-and-set that swapped leave their timestamp as the row's
-/// recency, a read and one that did not swap change nothing, and a deleted key keeps a row without a value. At the
-/// node that serves a key these are all operations on the path of the key's branch.
-pub fn rows_of_runs()
-    ensures versions { (setup : SetupState) → IsSetup setup → (past : List Entry) → IsRun setup past → are_quiet past ≡ true
-        → (n : ℕ) (key : List ℕ) → is_some (version_of (state setup n past).versions key) ≡ true }
-    ensures rows { (setup : SetupState) → IsSetup setup → (past : List Entry) → IsRun setup past → are_quiet past ≡ true
-        → (n : ℕ) (key : List ℕ) (version : Version) → version_of (state setup n past).versions key ≡ Some version
-        → row_of (state setup n past).rows key ≡ path_row past key version }
-    ensures served { (setup : SetupState) → IsSetup setup → (past : List Entry) → IsRun setup past → are_quiet past ≡ true
-        → (n : ℕ) (key : List ℕ) → serves (state setup n past) key ≡ true
-        → row_of (state setup n past).rows key ≡ row_after None (path setup past key) }
 {}

@@ -9,8 +9,8 @@ pub use change_laws::contracts_of_runs;
 pub use envelope::Envelope;
 pub use id_laws::{ids_of_runs, makers_of_runs};
 pub use laws::{
-    answers_of_runs, give_ups_of_runs, messages_of_runs, refusals_of_runs, rows_of_runs,
-    serving_of_runs, single_answers_of_runs, stories_of_runs,
+    answers_of_runs, give_ups_of_runs, messages_of_runs, refusals_of_runs, serving_of_runs,
+    single_answers_of_runs, stories_of_runs,
 };
 pub use log_laws::{committed_logs_of_runs, log_messages_of_runs, views_of_runs};
 pub use lose_refused::LoseRefused;
@@ -18,6 +18,7 @@ pub use parts::MOST_ENTRIES;
 pub use path_laws::{answered_points_stay, paths_of_runs};
 pub use point_laws::points_of_runs;
 pub use push_refused::PushRefused;
+pub use row_laws::{rows_of_runs, versions_of_runs};
 pub use world::World;
 
 pub mod change_laws;
@@ -31,5 +32,6 @@ pub mod parts;
 pub mod path_laws;
 pub mod point_laws;
 pub mod push_refused;
+pub mod row_laws;
 pub mod waiting_sets;
 pub mod world;
