@@ -1,5 +1,5 @@
 //! A table with a shard for each of two nodes: its nodes alone, and how a primary of a later contract starts.
-ghost use Rattle.std.specs.Prelude.{◌≡◌, IfOk};
+ghost use Rattle.std.specs.Prelude.{◌≡◌, ◌<◌, IfOk};
 
 use crate::{Brought, Node};
 use branch_history::Version;
@@ -256,17 +256,34 @@ fn comes_back(alloc: Global, node: Node) -> Result<(Node, Outputs), Fail> {
     stepped(alloc, node, &Input::Tick, None)
 }
 
+/// The node hears what it said to itself, and time passes: what it then gave.
+fn hears(alloc: Global, node: Node, said: &Outputs) -> Result<(Node, Outputs), Fail> {
+    let say = first(alloc, 0, said)?;
+    let (node, _) = stepped(alloc, node, &Input::Deliver { message: 1 }, say)?;
+    stepped(alloc, node, &Input::Tick, None)
+}
+
+/// What the node then gives for a put.
+fn serves(alloc: Global, node: Node) -> Result<Outputs, Fail> {
+    let (_node, done) = stepped(alloc, node, &put(alloc, 1, "a")?, None)?;
+    Ok(done)
+}
+
 #[test]
-fn a_node_that_comes_up_goes_on_in_a_branch_of_its_own(rt: HostRuntime) -> Result<(), Fail> {
+fn a_node_that_comes_up_asks_for_a_branch_of_its_own(rt: HostRuntime) -> Result<(), Fail> {
+    let alloc = rt.alloc();
+    let (_node, asked) = comes_back(alloc, only(alloc)?)?;
+    assert!(rt; says(alloc, &asked, "needs 0.2.0 to 0, viewed 1, ")?);
+    Ok(())
+}
+
+#[test]
+fn it_goes_on_there(rt: HostRuntime) -> Result<(), Fail> {
     let alloc = rt.alloc();
     let (node, asked) = comes_back(alloc, only(alloc)?)?;
-    assert!(rt; says(alloc, &asked, "needs 0.2.0 to 0, viewed 1, ")?);
-    let say = first(alloc, 0, &asked)?;
-    let (node, kept) = stepped(alloc, node, &Input::Deliver { message: 1 }, say)?;
-    assert!(rt; says(alloc, &kept, "")?);
-    let (node, started) = stepped(alloc, node, &Input::Tick, None)?;
+    let (node, started) = hears(alloc, node, &asked)?;
     assert!(rt; says(alloc, &started, "needs 0.2.0 to 0, viewed 2, ")?);
-    let (_node, done) = stepped(alloc, node, &put(alloc, 1, "a")?, None)?;
+    let done = serves(alloc, node)?;
     assert!(rt; says(alloc, &done, "0.2.0:2, done 0.2.0:2, ")?);
     Ok(())
 }
