@@ -1,5 +1,5 @@
 -- A node that is up takes its tick.
-use Rattle.std.proofs.Common.{◌≡◌, ◌&&◌, ◌∙◌, true, cond, nat_lt, Option, None, sym, subst}
+use Rattle.std.proofs.Common.{◌≡◌, ◌∙◌, true, cond, nat_lt, Option, None, sym, subst}
 use Rattle.std.specs.Result.{IfOk}
 use Rattle.std.proofs.lemmas.Bool.{and_parts}
 use Rattle.contract_types.specs.declared.limits.Which.{Which}
