@@ -1,12 +1,12 @@
 -- No line of an accepted script is passed over.
-use Rattle.std.proofs.Common.{◌≡◌, ◌≤◌, ℕ, zero, suc, ◌+◌, ◌==◌, Bool, true, false, cond, not, ◌&&◌, ◌||◌, nat_lt, List, [], ◌∷◌, ◌++◌, length, Option, Some, None, refl, sym, ap, ◌∙◌, subst, inl, inr, arith}
-use Rattle.std.proofs.lemmas.Bool.{cond_both, false≢true, and_parts, eq-eqb, eqb-true, or_cases, or_left, or_right}
+use Rattle.std.proofs.Common.{◌≡◌, ℕ, zero, suc, ◌+◌, ◌==◌, Bool, true, false, cond, not, ◌&&◌, ◌||◌, nat_lt, List, [], ◌∷◌, ◌++◌, length, Option, Some, None, refl, sym, ap, ◌∙◌, subst, inl, inr, arith}
+use Rattle.std.proofs.lemmas.Bool.{cond_both, false≢true, and_parts, eq-eqb, eqb-true, ltb-true, ltb-false, or_cases, or_left, or_right}
 use Rattle.std.specs.List.{list_all}
 use Rattle.region_map.specs.declared.id.NodeId.{NodeId}
 use Rattle.region_map.specs.Nodes.{node_id, has}
 use Rattle.register_laws.specs.declared.operation.OpId.{OpId}
 use Rattle.contract_types.specs.Setup.{SetupState}
-use Rattle.contract_types.specs.declared.limits.Which.TheVariants.{JournalEntries, Numbers}
+use Rattle.contract_types.specs.declared.limits.Which.TheVariants.{JournalEntries, JournalWeight, Numbers}
 use Rattle.exec_types.specs.declared.input.Input.{Input}
 use Rattle.exec_types.specs.declared.input.Input.TheVariants as input
 use Rattle.node_core.specs.declared.journal.Entry.{Entry}
@@ -14,9 +14,9 @@ use Rattle.node_core.specs.Step.{ends_numbers}
 use Rattle.world_core.specs.declared.envelope.Envelope.{Envelope}
 use Rattle.world_core.specs.declared.push_refused.PushRefused.{PushRefused}
 use Rattle.world_core.specs.declared.push_refused.PushRefused.TheVariants.{NoSuchNode, NotYours, Down, Up, OpKnown, JournalFull}
-use Rattle.world_core.specs.Run.{message_at, requests, is_requested, brought, state, suits}
+use Rattle.world_core.specs.Run.{message_at, requests, is_requested, brought, state, entry_of, suits}
 use Rattle.world_core.specs.Waiting.{is_waiting, may_flow, is_flowing, first_from, waiting}
-use Rattle.world_core.specs.World.{names_nodes, owner_refusal, message_refusal, up_refusal, op_refusal, input_refusal, entries_refusal, numbers_refusal, event_refusal, most_entries}
+use Rattle.world_core.specs.World.{names_nodes, owner_refusal, message_refusal, up_refusal, op_refusal, input_refusal, entries_refusal, weight_refusal, made_refusal, event_refusal, most_entries, most_weight, total_weight}
 use Rattle.script_text.specs.declared.script.ScriptWord.{ScriptWord}
 use Rattle.script_text.specs.declared.script.ScriptWord.TheVariants.{Request, GiveUp, See, Crash, Restart, Tick, Deliver, Lose, LoseBetween, Flush, Settle}
 use Rattle.script_text.specs.declared.script.ScriptItem.{ScriptItem}
@@ -62,25 +62,28 @@ down_past p line input.Crash = refl
 down_past p line input.Restart = refl
 
 module _ (setup : SetupState) where
-  -- the order of refusals: whether the node takes such an input, the room for an entry, the numbers
+  -- the order of refusals: whether the node takes such an input, the room for an entry, the numbers, the weight
   event_goes : (before : List ScriptItem) (p : Played) (line : ℕ) (node : NodeId) (i : Input) → Reached before p.past → names_nodes setup node i ≡ true
       → ((later : Option PushRefused) → message_refusal p.past node i later ≡ later) → ((later : Option PushRefused) → op_refusal p.past i later ≡ later)
       → ((op : OpId) → requests i op ≡ true → is_known op.0 before ≡ true) → Goes setup before p line node i (play_event setup p line node i)
   event_goes before p line node i h fits mine fresh new =
       let P : Option PushRefused → Type 0 = λ why. Goes setup before p line node i (refused_as setup p line node i why) in
       let up : Bool = (state setup node.0 p.past).up in
+      let weight : ℕ = total_weight (entry_of setup p.past node i ∷ p.past) in
       let ends : Bool = ends_numbers (state setup node.0 p.past) i (brought p.past i) in
-      let last : Option PushRefused = entries_refusal p.past (numbers_refusal setup p.past node i) in
+      let last : Option PushRefused = entries_refusal p.past (made_refusal setup p.past node i) in
       let refusal : event_refusal setup p.past node i ≡ up_refusal up i last =
       ap (λ b. cond b (input_refusal setup p.past node i last) (Some NoSuchNode)) fits ∙ mine (up_refusal up i (op_refusal p.past i last)) ∙ ap (up_refusal up i) (fresh last) in
       let unsuited : suits up i ≡ false → P (Some (cond up Up Down)) = λ s. other s up refl in
       subst P (sym refusal)
       (cond_both (suits up i) last (Some (cond up Up Down)) P
-      (λ _. cond_both (nat_lt (length p.past) most_entries) (numbers_refusal setup p.past node i) (Some (JournalFull JournalEntries)) P
-      (λ _. cond_both ends (Some (JournalFull Numbers)) None P
-      (λ e. record { adds = inr (inl (inr (e, refl))); reached = h })
-      (λ _. record { adds = inl refl; reached = record { known = λ op r. elim (or_cases (requests i op) (is_requested p.past op) r) [ inl now ↦ new op now | inr old ↦ h.known op old ] } }))
-      (λ full. record { adds = inr (inl (inl (let m : most_entries ≤ length p.past = grind (arith) in m, refl))); reached = h }))
+      (λ _. cond_both (nat_lt (length p.past) most_entries) (made_refusal setup p.past node i) (Some (JournalFull JournalEntries)) P
+      (λ _. cond_both ends (Some (JournalFull Numbers)) (weight_refusal setup p.past node i) P
+      (λ e. record { adds = inr (inl (inr (inl (e, refl)))); reached = h })
+      (λ _. cond_both (nat_lt most_weight weight) (Some (JournalFull JournalWeight)) None P
+      (λ heavy. record { adds = inr (inl (inr (inr (ltb-true _ _ heavy, refl)))); reached = h })
+      (λ _. record { adds = inl refl; reached = record { known = λ op r. elim (or_cases (requests i op) (is_requested p.past op) r) [ inl now ↦ new op now | inr old ↦ h.known op old ] } })))
+      (λ full. record { adds = inr (inl (inl (ltb-false _ _ full, refl))); reached = h }))
       unsuited)
     where
       other : suits (state setup node.0 p.past).up i ≡ false → (b : Bool) → (state setup node.0 p.past).up ≡ b → Goes setup before p line node i (refused_as setup p line node i (Some (cond b Up Down)))
@@ -132,7 +135,7 @@ module _ (setup : SetupState) where
   arrival_goes before p line number (Some m) e h =
       let i : Input = input.Deliver number in
       let P : Played → Type 0 = Holds before (Arrives setup p line number (Some m)) in
-      let last : Option PushRefused = input_refusal setup p.past m.to i (entries_refusal p.past (numbers_refusal setup p.past m.to i)) in
+      let last : Option PushRefused = input_refusal setup p.past m.to i (entries_refusal p.past (made_refusal setup p.past m.to i)) in
       elim (nat_lt m.to.0 setup.nodes) as (λ c. nat_lt m.to.0 setup.nodes ≡ c → P (play_event setup p line m.to i)) [
         | true ↦ λ within. let goes = to_node before p line number m h e within in record { holds = inl goes.adds; reached = goes.reached }
         | false ↦ λ outside.
@@ -144,7 +147,7 @@ module _ (setup : SetupState) where
       → nat_lt node.0 setup.nodes ≡ true → Holds before (ArrivesAt setup p line number node o) (play_event setup p line node (input.Deliver number))
   arrival_at_goes before p line number node o e h within =
       let i : Input = input.Deliver number in
-      let last : Option PushRefused = up_refusal (state setup node.0 p.past).up i (entries_refusal p.past (numbers_refusal setup p.past node i)) in
+      let last : Option PushRefused = up_refusal (state setup node.0 p.past).up i (entries_refusal p.past (made_refusal setup p.past node i)) in
       let refusal : event_refusal setup p.past node i ≡ owner_refusal o node last =
       ap (λ b. cond (b && true) (owner_refusal (message_at p.past number) node last) (Some NoSuchNode)) within ∙ ap (λ (m : Option Envelope). owner_refusal m node last) e in
       by_owner o e last refusal

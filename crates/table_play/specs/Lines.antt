@@ -1,28 +1,30 @@
 -- What each line of a script does, where nothing but a limit, a node that is down or up, or a message that was not sent or is for
 -- another node stands against it.
-use Rattle.std.specs.Prelude.{◌≡◌, ◌⊎◌, ◌≤◌, ℕ, zero, suc, ◌==◌, nat_lt, true, false, length, List, [], ◌∷◌, Option, Some, None, if◌then◌else◌}
+use Rattle.std.specs.Prelude.{◌≡◌, ◌⊎◌, ◌<◌, ◌≤◌, ℕ, zero, suc, ◌==◌, nat_lt, true, false, length, List, [], ◌∷◌, Option, Some, None, if◌then◌else◌}
 use Rattle.region_map.specs.declared.id.NodeId.{NodeId}
 use Rattle.region_map.specs.Nodes.{node_id}
 use Rattle.contract_types.specs.Setup.{SetupState}
-use Rattle.contract_types.specs.declared.limits.Which.TheVariants.{JournalEntries, Numbers}
+use Rattle.contract_types.specs.declared.limits.Which.TheVariants.{JournalEntries, JournalWeight, Numbers}
 use Rattle.exec_types.specs.declared.input.Input.{Input}
 use Rattle.exec_types.specs.declared.input.Input.TheVariants as input
 use Rattle.world_core.specs.declared.envelope.Envelope.{Envelope}
 use Rattle.node_core.specs.Step.{ends_numbers}
 use Rattle.world_core.specs.Run.{brought, state, message_at, entry_of, suits}
 use Rattle.world_core.specs.Waiting.{waiting}
-use Rattle.world_core.specs.World.{most_entries}
+use Rattle.world_core.specs.World.{most_entries, most_weight, total_weight}
 use Rattle.script_text.specs.declared.script.ScriptWord.{ScriptWord}
 use Rattle.script_text.specs.declared.script.ScriptWord.TheVariants.{Request, GiveUp, See, Crash, Restart, Tick, Deliver, Lose, LoseBetween, Flush, Settle}
 use Rattle.script_text.specs.declared.script.ScriptItem.{ScriptItem}
 use Rattle.report_text.specs.declared.ending.EventRefused.TheVariants.{Up, NoSuchMessage, NotYours}
 use Rattle.table_play.specs.Play.{Played, is_over, with_refusal, with_down, play_loss, play_losses, only_of, most_deliveries, play_word}
 
--- a limit stands against an event: the journal has no more room, or a number of the step would pass its limit
+-- a limit stands against an event: the journal has no more room, a number of the step would pass its limit, or the journal would
+-- be too heavy with the entry
 abbrev pub MeetsLimit : SetupState → Played → NodeId → Input → Played → Type 0
 MeetsLimit setup p node i q =
     ((most_entries ≤ length p.past) × (q ≡ record p { met = Some JournalEntries }))
-    ⊎ ((ends_numbers (state setup node.0 p.past) i (brought p.past i) ≡ true) × (q ≡ record p { met = Some Numbers }))
+    ⊎ (((ends_numbers (state setup node.0 p.past) i (brought p.past i) ≡ true) × (q ≡ record p { met = Some Numbers }))
+    ⊎ ((most_weight < total_weight (entry_of setup p.past node i ∷ p.past)) × (q ≡ record p { met = Some JournalWeight })))
 
 -- an event came to a node that is down, or asked a node to come up that is up
 abbrev pub IsUnsuited : SetupState → Played → ℕ → NodeId → Input → Played → Type 0

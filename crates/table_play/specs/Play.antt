@@ -14,7 +14,7 @@ use Rattle.world_core.specs.declared.push_refused.PushRefused.{PushRefused}
 use Rattle.world_core.specs.declared.push_refused.PushRefused.TheVariants as refused
 use Rattle.world_core.specs.Run.{message_at, entry_of, state}
 use Rattle.world_core.specs.Waiting.{waiting, waiting_between}
-use Rattle.world_core.specs.World.{event_refusal, most_entries}
+use Rattle.world_core.specs.World.{event_refusal, most_entries, most_weight}
 use Rattle.script_text.specs.declared.script.ScriptWord.{ScriptWord}
 use Rattle.script_text.specs.declared.script.ScriptWord.TheVariants.{Request, GiveUp, See, Crash, Restart, Tick, Deliver, Lose, LoseBetween, Flush, Settle}
 use Rattle.script_text.specs.declared.script.ScriptItem.{ScriptItem}
@@ -170,12 +170,12 @@ play_journal setup items = play_items setup unplayed items
 abbrev pub greatest_number : ℕ
 greatest_number = 2 ^ 62 - 1
 
--- the number of a limit that an event may meet: so far of the entries of a journal, and of the numbers
+-- the number of a limit that an event may meet: of the entries of a journal, of its weight, and of the numbers
 abbrev pub number_of : Which → ℕ
 number_of ScriptBytes = 0
 number_of LineBytes = 0
 number_of JournalEntries = most_entries
-number_of JournalWeight = 0
+number_of JournalWeight = most_weight
 number_of Numbers = greatest_number
 
 abbrev pub ending_of : Option Which → Ending

@@ -30,7 +30,7 @@ use report_text::{
 };
 use script_text::{Script, ScriptRefused, Status, read_script};
 use std::alloc::Global;
-use world_core::{MOST_ENTRIES, World};
+use world_core::{MOST_ENTRIES, MOST_WEIGHT, World};
 
 /// The most bytes of a script.
 const MOST_SCRIPT_BYTES: u64 = 16_777_216;
@@ -54,10 +54,10 @@ fn number_of(which: Which) -> u64
 {
     match which {
         Which::JournalEntries => MOST_ENTRIES,
+        Which::JournalWeight => MOST_WEIGHT,
         Which::Numbers => GREATEST_NUMBER,
         Which::ScriptBytes => 0,
         Which::LineBytes => 0,
-        Which::JournalWeight => 0,
     }
 }
 

@@ -1,10 +1,11 @@
 -- What a world keeps beside its journal, as entries come, and which events it refuses.
-use Rattle.std.proofs.Common.{◌≡◌, ◌≢◌, ◌⊎◌, Err, IsErrOf, ◌==◌, ℕ, zero, suc, ◌+◌, ◌<◌, Bool, true, false, cond, not, ◌&&◌, ◌||◌, nat_lt, List, [], ◌∷◌, ◌++◌, map, length, set, get_or, Option, Some, None, inl, inr, refl, sym, ap, ap₂, ◌∙◌, subst, is_some, arith}
+use Rattle.std.proofs.Common.{◌≡◌, ◌≢◌, ◌⊎◌, Err, IsErrOf, ◌==◌, ℕ, zero, suc, ◌+◌, ◌<◌, Bool, true, false, cond, not, ◌&&◌, ◌||◌, nat_lt, List, [], ◌∷◌, ◌++◌, map, length, set, get_or, Option, Some, None, inl, inr, refl, sym, ap, ap₂, ◌∙◌, subst, is_some, add_comm, arith}
 use Rattle.std.proofs.lemmas.Bool.{cases_eq, cases_lt, eq-eqb, ne_eqb, lt-ltb, ltb-true}
 use Rattle.std.proofs.lemmas.Bool.Decides.{nat_tests}
 use Rattle.std.proofs.lemmas.List.{same_lists, get_or_append_left, get_or-map, get_or-set_same, get_or-set_other, length-map, length-set, map-append}
 use Rattle.std.proofs.Math.Seq.{get_or-append_seam}
 use Rattle.std.proofs.Common.{length-append}
+use Rattle.std.proofs.lemmas.List.Sums.{sum_by-cons}
 use Rattle.std.specs.BTreeSet.{BTreeSet, contains}
 use Rattle.region_map.specs.declared.id.NodeId.{NodeId}
 use Rattle.register_laws.specs.declared.operation.OpId.{OpId}
@@ -19,6 +20,7 @@ use Rattle.exec_types.specs.declared.output.Output.{Output}
 use Rattle.node_core.specs.declared.node.Brought.{Brought}
 use Rattle.node_core.specs.declared.journal.Entry.{Entry}
 use Rattle.node_core.specs.Step.{NodeState, begin_node, node_step, ends_numbers}
+use Rattle.journal_weight.specs.Weights.{weight_of}
 use Rattle.world_core.specs.declared.envelope.Envelope.{Envelope}
 use Rattle.world_core.specs.declared.push_refused.PushRefused.{PushRefused}
 use Rattle.world_core.specs.declared.push_refused.PushRefused.TheVariants.{NoSuchNode, NotYours, Down, Up, OpKnown, JournalFull, OutOfMemory}
@@ -26,7 +28,7 @@ use Rattle.world_core.specs.Run.{numbered, may_step, sent, sent_by, brought, sta
 use Rattle.world_core.specs.Waiting.{delivers, is_between}
 use Rattle.world_core.specs.Pairs.{SetsState, pair_has, comes_between, waits_between, is_up_state, is_up_among}
 use Rattle.world_core.proofs.Waits.{waits_next, sent_next, arrives_sent, waits_lost, sent_lost, lost_one, one_is_sent}
-use Rattle.world_core.specs.World.{WorldState, states, step_refusal, numbers_refusal, owner_refusal, message_refusal, up_refusal, op_refusal, most_entries, entries_refusal, names_nodes, input_refusal, entry_refusal, event_refusal, unless_ended, push_refusal, is_up, op_cmp, AreSent, IsInStep}
+use Rattle.world_core.specs.World.{WorldState, states, step_refusal, numbers_refusal, total_weight, heavy_refusal, weight_refusal, made_refusal, owner_refusal, message_refusal, up_refusal, op_refusal, most_entries, entries_refusal, names_nodes, input_refusal, entry_refusal, event_refusal, unless_ended, push_refusal, is_up, op_cmp, AreSent, IsInStep}
 
 -- ---- lists by the numbers of nodes
 
@@ -200,15 +202,15 @@ names_pass : (named : Bool) (later : Option PushRefused) → cond named later (S
 names_pass true later e = (refl, e)
 names_pass false later e = absurd (cc)
 
-numbers_pass : (ends : Bool) → cond ends (Some (JournalFull Numbers)) None ≡ None → not ends ≡ true
-numbers_pass true e = absurd (cc)
-numbers_pass false e = refl
+numbers_pass : (ends : Bool) (later : Option PushRefused) → cond ends (Some (JournalFull Numbers)) later ≡ None → not ends ≡ true
+numbers_pass true later e = absurd (cc)
+numbers_pass false later e = refl
 
 all_hold : (a b c d e f : Bool) → (a && b) ≡ true → c ≡ true → d ≡ true → e ≡ true → f ≡ true → (a && b && c && d && e && f) ≡ true
 all_hold a b c d e f ab hc hd he hf = grind (arith, nat_tests)
 
 -- an event that nothing refuses may be a step of a run
-pub goes_on : (setup : SetupState) (past : List Entry) (node : NodeId) (input : Input) → entry_refusal setup past node input ≡ None → numbers_refusal setup past node input ≡ None
+pub goes_on : (setup : SetupState) (past : List Entry) (node : NodeId) (input : Input) → entry_refusal setup past node input ≡ None → made_refusal setup past node input ≡ None
     → may_step setup past node input ≡ true
 goes_on setup past node input e n =
     let s : NodeState = state setup node.0 past in
@@ -218,7 +220,7 @@ goes_on setup past node input e n =
     let suited = up_passes s.up input (op_refusal past input full) arrived.1 in
     all_hold (nat_lt node.0 setup.nodes) (names_node setup input) (arrives past node input) (suits s.up input) (is_fresh past input)
     (not (ends_numbers s input (brought past input))) named.0 arrived.0 suited.0 (op_passes past input full suited.1)
-    (numbers_pass (ends_numbers s input (brought past input)) n)
+    (numbers_pass (ends_numbers s input (brought past input)) (weight_refusal setup past node input) n)
 
 -- ---- refusals
 
@@ -281,9 +283,9 @@ event_refused : (setup : SetupState) (past : List Entry) (node : NodeId) (input 
     → event_refusal setup past node input ≡ Some why
 event_refused setup past node input why =
     let now : Option PushRefused = entries_refusal past None in
-    let later : Option PushRefused = entries_refusal past (numbers_refusal setup past node input) in
+    let later : Option PushRefused = entries_refusal past (made_refusal setup past node input) in
     elim (names_nodes setup node input) as (λ c. cond c (input_refusal setup past node input now) (Some NoSuchNode) ≡ Some why → cond c (input_refusal setup past node input later) (Some NoSuchNode) ≡ Some why) [
-      | true ↦ input_refused setup past node input now later why (entries_refused past (numbers_refusal setup past node input) why)
+      | true ↦ input_refused setup past node input now later why (entries_refused past (made_refusal setup past node input) why)
       | false ↦ λ e. e
     ]
 
@@ -404,27 +406,38 @@ state_stored setup past lost nodes messages waits requested n h within =
     ap (λ (l : List (Option NodeState)). get_or l n None) h.states_are ∙ state_at setup past n (omega arith)
 
 -- what the numbers refuse, by what was brought
-numbers_by : (setup : SetupState) (past : List Entry) (node : NodeId) (input : Input) (b : Option Brought) → b ≡ brought past input
-    → numbers_refusal setup past node input ≡ cond (ends_numbers (state setup node.0 past) input b) (Some (JournalFull Numbers)) None
-numbers_by setup past node input b e = ap (λ (m : Option Brought). cond (ends_numbers (state setup node.0 past) input m) (Some (JournalFull Numbers)) None) (sym e)
+numbers_by : (setup : SetupState) (past : List Entry) (node : NodeId) (input : Input) (b : Option Brought) (later : Option PushRefused) → b ≡ brought past input
+    → numbers_refusal setup past node input later ≡ cond (ends_numbers (state setup node.0 past) input b) (Some (JournalFull Numbers)) later
+numbers_by setup past node input b later e = ap (λ (m : Option Brought). cond (ends_numbers (state setup node.0 past) input m) (Some (JournalFull Numbers)) later) (sym e)
 
-pub numbers_taken : (setup : SetupState) (past : List Entry) (node : NodeId) (input : Input) (b : Option Brought) → b ≡ brought past input
-    → ends_numbers (state setup node.0 past) input b ≡ false → numbers_refusal setup past node input ≡ None
-numbers_taken setup past node input b e h = numbers_by setup past node input b e ∙ ap (λ v. cond v (Some (JournalFull Numbers)) None) h
-
-numbers_of : (why : StepRefused) (b : Bool) → (IsErrOf {T = List Output} {E = StepRefused} (Err why) NumbersEnd → b ≡ true)
-    → (step_refusal why ≡ OutOfMemory) ⊎ (cond b (Some (JournalFull Numbers)) None ≡ Some (step_refusal why))
-numbers_of NumbersEnd b h = inr (ap (λ v. cond v (Some (JournalFull Numbers)) None) (h refl))
-numbers_of step.OutOfMemory b h = inl refl
+numbers_of : (why : StepRefused) (b : Bool) (later : Option PushRefused) → (IsErrOf {T = List Output} {E = StepRefused} (Err why) NumbersEnd → b ≡ true)
+    → (step_refusal why ≡ OutOfMemory) ⊎ (cond b (Some (JournalFull Numbers)) later ≡ Some (step_refusal why))
+numbers_of NumbersEnd b later h = inr (ap (λ v. cond v (Some (JournalFull Numbers)) later) (h refl))
+numbers_of step.OutOfMemory b later h = inl refl
 
 pub numbers_refused : (why : StepRefused) (setup : SetupState) (past : List Entry) (node : NodeId) (input : Input) (b : Option Brought) → b ≡ brought past input
     → (IsErrOf {T = List Output} {E = StepRefused} (Err why) NumbersEnd → ends_numbers (state setup node.0 past) input b ≡ true)
-    → (step_refusal why ≡ OutOfMemory) ⊎ (numbers_refusal setup past node input ≡ Some (step_refusal why))
+    → (step_refusal why ≡ OutOfMemory) ⊎ (made_refusal setup past node input ≡ Some (step_refusal why))
 numbers_refused why setup past node input b e h =
-    elim (numbers_of why (ends_numbers (state setup node.0 past) input b) h) [
+    elim (numbers_of why (ends_numbers (state setup node.0 past) input b) (weight_refusal setup past node input) h) [
       | inl o ↦ inl o
-      | inr n ↦ inr (numbers_by setup past node input b e ∙ n)
+      | inr n ↦ inr (numbers_by setup past node input b (weight_refusal setup past node input) e ∙ n)
     ]
+
+-- what a journal weighs with one more entry
+pub weight_next : (past : List Entry) (e : Entry) (before : ℕ) → before ≡ total_weight past → before + weight_of e ≡ total_weight (e ∷ past)
+weight_next past e before h = ap (λ n. n + weight_of e) h ∙ add_comm (total_weight past) (weight_of e) ∙ sym (sum_by-cons weight_of e past)
+
+-- where the step passes no limit of the numbers, the weight of its entry decides
+pub weight_decides : (setup : SetupState) (past : List Entry) (node : NodeId) (input : Input) (b : Option Brought) (outs : List Output) (before : ℕ) (r : Option PushRefused) → b ≡ brought past input
+    → ends_numbers (state setup node.0 past) input b ≡ false → outs ≡ outs_of setup past node input → before ≡ total_weight past
+    → heavy_refusal (before + weight_of (record { node = node; input = input; outputs = outs })) ≡ r → made_refusal setup past node input ≡ r
+weight_decides setup past node input b outs before r e goes o w h =
+    let made : List Output → Entry = λ os. record { node = node; input = input; outputs = os } in
+    let weighs : before + weight_of (made outs) ≡ total_weight (entry_of setup past node input ∷ past) =
+    ap (λ os. before + weight_of (made os)) o ∙ weight_next past (entry_of setup past node input) before w in
+    numbers_by setup past node input b (weight_refusal setup past node input) e ∙ ap (λ v. cond v (Some (JournalFull Numbers)) (weight_refusal setup past node input)) goes
+    ∙ ap heavy_refusal (sym weighs) ∙ h
 
 -- what the node gives, by what was brought
 pub outs_given : (setup : SetupState) (past : List Entry) (node : NodeId) (input : Input) (b : Option Brought) (outs : List Output) → b ≡ brought past input

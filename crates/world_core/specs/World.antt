@@ -1,5 +1,5 @@
 -- What clients see of a world, and which events it takes.
-use Rattle.std.specs.Prelude.{◌≡◌, ℕ, ◌==◌, Bool, true, false, ◌&&◌, nat_lt, List, length, map, Option, Some, None, if◌then◌else◌}
+use Rattle.std.specs.Prelude.{◌≡◌, ℕ, ◌==◌, Bool, true, false, ◌&&◌, nat_lt, List, ◌∷◌, length, map, sum_by, Option, Some, None, if◌then◌else◌}
 use Rattle.std.specs.declared.cmp.Ordering.{Ordering}
 use Rattle.std.specs.Ordering.{nat_cmp}
 use Rattle.std.specs.BTreeSet.{BTreeSet, contains}
@@ -15,10 +15,11 @@ use Rattle.exec_types.specs.declared.input.Input.TheVariants.{Request, GiveUp, S
 use Rattle.node_core.specs.declared.journal.Entry.{Entry}
 use Rattle.node_core.specs.Step.{NodeState, ends_numbers}
 use Rattle.node_core.specs.Journal.{JournalState}
+use Rattle.journal_weight.specs.Weights.{weight_of}
 use Rattle.world_core.specs.declared.envelope.Envelope.{Envelope}
 use Rattle.world_core.specs.declared.push_refused.PushRefused.{PushRefused}
 use Rattle.world_core.specs.declared.push_refused.PushRefused.TheVariants.{NoSuchNode, NoSuchMessage, NotYours, Down, Up, OpKnown, JournalFull, OutOfMemory}
-use Rattle.world_core.specs.Run.{IsRun, sent, is_requested, message_at, brought, state, names_node, suits}
+use Rattle.world_core.specs.Run.{IsRun, sent, is_requested, message_at, brought, state, entry_of, names_node, suits}
 use Rattle.world_core.specs.Waiting.{is_sent, is_delivered, is_lost}
 use Rattle.world_core.specs.Pairs.{SetsState, AreWaiting}
 
@@ -39,9 +40,29 @@ abbrev pub states : SetupState → List Entry → List (Option NodeState)
 states setup past = map (λ n. Some (state setup n past)) (nodes_below setup.nodes)
 
 -- the node's step would pass the limit of the numbers
-abbrev pub numbers_refusal : SetupState → List Entry → NodeId → Input → Option PushRefused
-numbers_refusal setup past node input =
-    if ends_numbers (state setup node.0 past) input (brought past input) then Some (JournalFull Numbers) else None
+abbrev pub numbers_refusal : SetupState → List Entry → NodeId → Input → Option PushRefused → Option PushRefused
+numbers_refusal setup past node input later =
+    if ends_numbers (state setup node.0 past) input (brought past input) then Some (JournalFull Numbers) else later
+
+-- what the entries of a journal weigh together
+abbrev pub total_weight : List Entry → ℕ
+total_weight past = sum_by weight_of past
+
+-- how heavy a journal is at most
+abbrev pub most_weight : ℕ
+most_weight = 134217728
+
+-- a journal of this weight would be too heavy
+abbrev pub heavy_refusal : ℕ → Option PushRefused
+heavy_refusal weight = if nat_lt most_weight weight then Some (JournalFull JournalWeight) else None
+
+-- with the entry of the step the journal would be too heavy
+abbrev pub weight_refusal : SetupState → List Entry → NodeId → Input → Option PushRefused
+weight_refusal setup past node input = heavy_refusal (total_weight (entry_of setup past node input ∷ past))
+
+-- the refusals that the node's step shows
+abbrev pub made_refusal : SetupState → List Entry → NodeId → Input → Option PushRefused
+made_refusal setup past node input = numbers_refusal setup past node input (weight_refusal setup past node input)
 
 -- a message that is there is for this node
 abbrev pub owner_refusal : Option Envelope → NodeId → Option PushRefused → Option PushRefused
@@ -89,7 +110,7 @@ entries_refusal past later = if nat_lt (length past) most_entries then later els
 -- the first refusal of an event that holds
 abbrev pub event_refusal : SetupState → List Entry → NodeId → Input → Option PushRefused
 event_refusal setup past node input =
-    if names_nodes setup node input then input_refusal setup past node input (entries_refusal past (numbers_refusal setup past node input)) else Some NoSuchNode
+    if names_nodes setup node input then input_refusal setup past node input (entries_refusal past (made_refusal setup past node input)) else Some NoSuchNode
 
 -- the first refusal that needs no step of the node
 abbrev pub entry_refusal : SetupState → List Entry → NodeId → Input → Option PushRefused
@@ -158,7 +179,8 @@ pub record IsInStep (setup : SetupState) (past : List Entry) (lost : List ℕ) (
   pub known_sent : AreSent past lost
   pub ops_are : AreRequested requested past
 
-pub record IsWorld (setup : SetupState) (journal : JournalState) (lost : List ℕ) (nodes : List (Option NodeState)) (messages : List Envelope) (waits : SetsState) (requested : BTreeSet OpId) (ended : Option PushRefused) : Type 0 where
+pub record IsWorld (setup : SetupState) (journal : JournalState) (lost : List ℕ) (nodes : List (Option NodeState)) (messages : List Envelope) (waits : SetsState) (requested : BTreeSet OpId) (ended : Option PushRefused) (weight : ℕ) : Type 0 where
   pub begun : journal.setup ≡ Some setup
   pub run : IsRun setup journal.past
   pub in_step : ended ≡ None → IsInStep setup journal.past lost nodes messages waits requested
+  pub weighed : weight ≡ total_weight journal.past

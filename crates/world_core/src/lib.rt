@@ -14,7 +14,7 @@ pub use laws::{
 };
 pub use log_laws::{committed_logs_of_runs, log_messages_of_runs, views_of_runs};
 pub use lose_refused::LoseRefused;
-pub use parts::MOST_ENTRIES;
+pub use parts::{MOST_ENTRIES, MOST_WEIGHT};
 pub use path_laws::{answered_points_stay, paths_of_runs};
 pub use point_laws::points_of_runs;
 pub use push_refused::PushRefused;

@@ -1,21 +1,23 @@
 //! What a world keeps beside its journal, and how an entry changes it.
-ghost use Rattle.std.specs.Prelude.{◌≡◌, is_some, ℕ, ◌==◌, ◌<◌, ◌↔◌, ◌⊎◌, ◌||◌, ◌&&◌, not, Some, None, false, true, ◌∷◌, OnOk, OnErr, IfOk, IfErr, IfSome, IsErrOf, IsTrue, List, map, length, nat_lt, slice_set, slice_index_or};
+ghost use Rattle.std.specs.Prelude.{◌≡◌, is_some, ℕ, ◌+◌, ◌==◌, ◌<◌, ◌↔◌, ◌⊎◌, ◌||◌, ◌&&◌, not, Some, None, false, true, ◌∷◌, OnOk, OnErr, IfOk, IfErr, IfSome, IsErrOf, IsTrue, List, map, length, nat_lt, slice_set, slice_index_or};
 ghost use Rattle.std.specs.BTreeSet.{contains};
 ghost use Rattle.region_map.specs.declared.id.NodeId.{NodeId};
 ghost use Rattle.contract_types.specs.Setup.{SetupState, nodes_below};
 ghost use Rattle.node_core.specs.declared.journal.Entry.{Entry};
 ghost use Rattle.node_core.specs.Step.{NodeState, begin_node, node_step, ends_numbers};
+ghost use Rattle.journal_weight.specs.Weights.{weight_of};
 ghost use Rattle.register_laws.specs.declared.operation.OpId.{OpId};
 ghost use Rattle.world_core.specs.Run.{sent, numbered, brought, requests, is_requested, entry_of, suits};
 ghost use Rattle.world_core.specs.Waiting.{delivers, is_between};
 ghost use Rattle.world_core.specs.Pairs.{pair_has, is_up_among};
-ghost use Rattle.world_core.specs.World.{op_cmp, AreRequested, IsInStep, most_entries, states, names_nodes, message_refusal, op_refusal, entry_refusal, numbers_refusal, is_final};
+ghost use Rattle.world_core.specs.World.{op_cmp, AreRequested, IsInStep, most_entries, states, names_nodes, message_refusal, op_refusal, entry_refusal, made_refusal, heavy_refusal, total_weight, is_final};
 
 use crate::PushRefused;
 use crate::envelope::{Envelope, collect, find, open};
 use crate::waiting_sets::WaitingSets;
 use contract_types::{Setup, Which};
 use exec_types::{Input, Outputs};
+use journal_weight::weight;
 use memory::OutOfMemory;
 use node_core::{Brought, Entry, Journal, Node};
 use region_map::{NodeId, StepRefused};
@@ -25,6 +27,9 @@ use std::collections::BTreeSet;
 
 /// How many entries a journal holds at most.
 pub const MOST_ENTRIES: u64 = 20_000;
+
+/// How heavy a journal is at most.
+pub const MOST_WEIGHT: u64 = 134_217_728;
 
 /// The nodes of a table as it begins.
 pub(crate) fn begin_nodes(alloc: Global, setup: &Setup) -> Result<Vec<Option<Node>>, OutOfMemory>
@@ -247,18 +252,33 @@ pub(crate) fn refusal(
     None
 }
 
-/// Takes an event that nothing but its step may refuse: its node steps, and what that gives is kept. At a refusal
-/// the parts are spoilt, and the journal is as it was.
+/// What a journal of this weight weighs with one more entry, unless it is too heavy then.
+fn with_weight(before: u64, entry: &Entry) -> Result<u64, PushRefused>
+    ensures ok { IfOk result (λ after. after ≡ before + weight_of entry.now) }
+    ensures light { OnOk result (heavy_refusal (before + weight_of entry.now) ≡ None) }
+    ensures err { IfErr result (λ why. heavy_refusal (before + weight_of entry.now) ≡ Some why) }
+    ensures ends { IfErr result (λ why. is_final why ≡ true) }
+{
+    let after = before.saturating_add(weight(entry));
+    if after > MOST_WEIGHT {
+        return Err(PushRefused::JournalFull(Which::JournalWeight));
+    }
+    Ok(after)
+}
+
+/// Takes an event that nothing but its step may refuse: its node steps, and what that gives is kept. The result is
+/// the journal's weight. At a refusal the parts are spoilt, and the journal is as it was.
 pub(crate) fn take(
     journal: &mut Journal,
     nodes: &mut Vec<Option<Node>>,
     messages: &mut Vec<Envelope>,
     waits: &mut WaitingSets,
     requested: &mut BTreeSet<OpId>,
+    before: u64,
     alloc: Global,
     node: NodeId,
     input: Input,
-) -> Result<(), PushRefused>
+) -> Result<u64, PushRefused>
     requires { node.0 < length nodes.old.items }
     ensures entry { (setup : SetupState) (lost : List ℕ)
         → IsInStep setup journal.old.past lost nodes.old.items messages.old.items waits.old requested.old
@@ -271,11 +291,14 @@ pub(crate) fn take(
         nodes.new.items messages.new.items waits.new requested.new) }
     ensures taken { (setup : SetupState) (lost : List ℕ)
         → IsInStep setup journal.old.past lost nodes.old.items messages.old.items waits.old requested.old
-        → OnOk result (numbers_refusal setup journal.old.past node input ≡ None) }
+        → before ≡ total_weight journal.old.past
+        → OnOk result (made_refusal setup journal.old.past node input ≡ None) }
     ensures refused { (setup : SetupState) (lost : List ℕ)
         → IsInStep setup journal.old.past lost nodes.old.items messages.old.items waits.old requested.old
+        → before ≡ total_weight journal.old.past
         → IfErr result (λ why. (why ≡ PushRefused.OutOfMemory)
-        ⊎ (numbers_refusal setup journal.old.past node input ≡ Some why)) }
+        ⊎ (made_refusal setup journal.old.past node input ≡ Some why)) }
+    ensures weighed { before ≡ total_weight journal.old.past → IfOk result (λ after. after ≡ total_weight journal.new.past) }
     ensures ends { IfErr result (λ why. is_final why ≡ true) }
     ensures kept { OnErr result (journal.new ≡ journal.old) }
 {
@@ -284,10 +307,12 @@ pub(crate) fn take(
     arrive(waits, messages, &input);
     collect(alloc, node, outputs.as_slice(), messages, waits)?;
     note(requested, &input)?;
-    journal.push(Entry {
+    let entry = Entry {
         node,
         input,
         outputs,
-    })?;
-    Ok(())
+    };
+    let after = with_weight(before, &entry)?;
+    journal.push(entry)?;
+    Ok(after)
 }

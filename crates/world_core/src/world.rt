@@ -27,6 +27,8 @@ use std::marker::Model;
 pub struct World {
     setup: Setup,
     journal: Journal,
+    /// The weight of the journal.
+    weight: u64,
     nodes: Vec<Option<Node>>,
     sent: Vec<Envelope>,
     /// The messages that were marked lost, in the order in which they were.
@@ -44,7 +46,7 @@ impl Model for World {
 
     ghost view = { λ a. record { setup = a.setup; past = a.journal.past; lost = a.lost.items; ended = a.ended } };
 
-    ghost invariant = { λ a. IsWorld a.setup a.journal a.lost.items a.nodes.items a.sent.items a.waits a.requested a.ended };
+    ghost invariant = { λ a. IsWorld a.setup a.journal a.lost.items a.nodes.items a.sent.items a.waits a.requested a.ended a.weight };
 }
 
 impl World {
@@ -58,6 +60,7 @@ impl World {
         Ok(World {
             setup,
             journal,
+            weight: 0,
             nodes,
             sent: Vec::new(alloc),
             lost: Vec::new(alloc),
@@ -92,20 +95,26 @@ impl World {
             return Err(why);
         }
         let place = self.journal.entries().len() as u64;
-        if let Err(why) = take(
+        match take(
             &mut self.journal,
             &mut self.nodes,
             &mut self.sent,
             &mut self.waits,
             &mut self.requested,
+            self.weight,
             alloc,
             node,
             input,
         ) {
-            self.ended = Some(why);
-            return Err(why);
+            Ok(weight) => {
+                self.weight = weight;
+                Ok(place)
+            }
+            Err(why) => {
+                self.ended = Some(why);
+                Err(why)
+            }
         }
-        Ok(place)
     }
 
     /// The node that the message of a number is for. Of a world that ended nothing is said.

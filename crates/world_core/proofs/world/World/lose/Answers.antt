@@ -16,6 +16,7 @@ invariant_of-self-2 c =
     record {
       begun = c.self.invariant.begun;
       run = c.self.invariant.run;
+      weighed = c.self.invariant.weighed;
       in_step = λ e. IsInStep-lost w.setup w.journal.past w.lost.items _ c.args.message w.nodes.items w.sent.items w.waits _ w.requested (c.self.invariant.in_step e) c.in_ok-push.ensures.items there c.stop_waiting.ensures.nodes
           (λ a b ha hb k. c.stop_waiting.ensures.stopped a b ha hb k
           ∙ ap (λ (ms : List Envelope). not ((c.args.message == k) && is_between a b (numbered ms k)) && pair_has w.waits a b k) c.deref-2.ensures.value);

@@ -12,6 +12,7 @@ invariant_of-self-2 c =
     record {
       begun = c.self.invariant.begun;
       run = c.self.invariant.run;
+      weighed = c.self.invariant.weighed;
       in_step = λ e.
           let h = c.self.invariant.in_step e in
           let hf : c.args.from.0 < w.waits.nodes = subst (λ (m : ℕ). c.args.from.0 < m) (sym h.waits_are.nodes_are) (subst (λ (v : WorldState). c.args.from.0 < v.setup.nodes) (sym c.self.view_is) c.requires.sender) in

@@ -1,0 +1,103 @@
+//! The weights of a step's input and outputs, and of the entry that it makes.
+ghost use Rattle.std.specs.Prelude.{◌≡◌};
+ghost use Rattle.journal_weight.specs.Weights.{capped, weight_of, content_weight};
+
+use crate::weigh::{Weigh, total};
+use exec_types::{Input, Outcome, Output};
+use node_core::Entry;
+use register_laws::{Op, Reply};
+
+impl Weigh for Op {
+    ghost use Rattle.journal_weight.specs.Weights.{op_weight};
+
+    ghost weight = { op_weight };
+
+    fn weigh(&self) -> u64 {
+        match self {
+            Op::Put(value) => value.weigh(),
+            Op::Delete => 0,
+            Op::Cas { expect, put } => expect.weigh().saturating_add(put.weigh()),
+            Op::Read => 0,
+        }
+    }
+}
+
+impl Weigh for Reply {
+    ghost use Rattle.journal_weight.specs.Weights.{reply_weight};
+
+    ghost weight = { reply_weight };
+
+    fn weigh(&self) -> u64 {
+        match self {
+            Reply::Was(value) => value.weigh(),
+            Reply::Swapped => 0,
+            Reply::Kept(value) => value.weigh(),
+        }
+    }
+}
+
+impl Weigh for Outcome {
+    ghost use Rattle.journal_weight.specs.Weights.{outcome_weight};
+
+    ghost weight = { outcome_weight };
+
+    fn weigh(&self) -> u64 {
+        match self {
+            Outcome::Done { reply, .. } => reply.weigh(),
+            Outcome::NotServing => 0,
+            Outcome::NoMajority(_) => 0,
+        }
+    }
+}
+
+/// What an output holds.
+fn content(output: &Output) -> u64
+    ensures { result ≡ capped (content_weight output.now) }
+{
+    match output {
+        Output::Message { message, .. } => message.weigh(),
+        Output::Dispatched { key, .. } => key.weigh(),
+        Output::Viewed { results, .. } => total(results.as_slice()),
+        Output::Answer { outcome, .. } => outcome.weigh(),
+    }
+}
+
+impl Weigh for Output {
+    ghost use Rattle.journal_weight.specs.Weights.{output_weight};
+
+    ghost weight = { output_weight };
+
+    fn weigh(&self) -> u64 {
+        content(self).saturating_add(64)
+    }
+}
+
+impl Weigh for Input {
+    ghost use Rattle.journal_weight.specs.Weights.{input_weight};
+
+    ghost weight = { input_weight };
+
+    fn weigh(&self) -> u64 {
+        match self {
+            Input::Request { key, what, .. } => key.weigh().saturating_add(what.weigh()),
+            Input::GiveUp { .. } => 0,
+            Input::See { .. } => 0,
+            Input::Tick => 0,
+            Input::Deliver { .. } => 0,
+            Input::Crash => 0,
+            Input::Restart => 0,
+        }
+    }
+}
+
+/// What an entry of a journal weighs: 64, and 64 for each output; the bytes of each key, key bound and value; 64 for
+/// each piece of a region map, and for each change of the table's log; 256 for each shard and each contract. A sum
+/// above the greatest number counts as that number.
+#[tactic(auto, unfolding(crate::specs::Weights::weight_of))]
+pub fn weight(entry: &Entry) -> u64
+    ensures { result ≡ weight_of entry.now }
+{
+    let given = entry.input.weigh();
+    let gave = total(entry.outputs.as_slice());
+    given.saturating_add(gave).saturating_add(64)
+}
