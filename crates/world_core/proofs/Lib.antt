@@ -32,6 +32,7 @@ pub mod LedRows
 pub mod LedRuns
 pub mod LedShards
 pub mod LedStarts
+pub mod LogReceivers
 pub mod LogWorldLaws
 pub mod LogWorldMoves
 pub mod LogWorldOuts

@@ -63,15 +63,15 @@ pub fn serving_of_runs()
         → (n : ℕ) (key : List ℕ) → serves (state setup n past) key ≡ list_any (λ s. is_led n s && has_key s.region setup.hashes key) setup.shards }
 {}
 
-/// In every such run, each message goes from a node of the table to a node of the table.
+/// In every run, each message goes from a node of the table to a node of the table.
 pub fn messages_of_runs()
-    ensures from { (setup : SetupState) → IsSetup setup → (past : List Entry) → IsRun setup past → are_quiet past ≡ true
+    ensures from { (setup : SetupState) → IsSetup setup → (past : List Entry) → IsRun setup past
         → (number : ℕ) (message : Envelope) → message_at past number ≡ Some message → message.from.0 < setup.nodes }
-    ensures to { (setup : SetupState) → IsSetup setup → (past : List Entry) → IsRun setup past → are_quiet past ≡ true
+    ensures to { (setup : SetupState) → IsSetup setup → (past : List Entry) → IsRun setup past
         → (number : ℕ) (message : Envelope) → message_at past number ≡ Some message → message.to.0 < setup.nodes }
 {}
 
-/// In every such run, each key has a version at each node, and its row there is what the operations on it left that lie on
+/// In every run of requests, deliveries and operations that are given up alone, each key has a version at each node, and its row there is what the operations on it left that lie on
 /// the path of that version: a put, a deletion and a compare-and-set that swapped leave their timestamp as the row's
 /// recency, a read and one that did not swap change nothing, and a deleted key keeps a row without a value. At the
 /// node that serves a key these are all operations on the path of the key's branch.
