@@ -125,7 +125,7 @@ still_waits me t (a ∷ rest) s y i =
       | inr f ↦ inr f
     ]
 
-act_waits : (step : Stepped) (vw : Viewed) (y : Asking) → IsIn (act_on step (Some vw)).node.asking y → due (table_of (caught_up step.node.log)) y ≡ None
+pub act_waits : (step : Stepped) (vw : Viewed) (y : Asking) → IsIn (act_on step (Some vw)).node.asking y → due (table_of (caught_up step.node.log)) y ≡ None
 act_waits step vw y i =
     let s : NodeState = step.node in
     elim (still_waits s.me (table_of (caught_up s.log)) s.asking (record { asking = []; executions = s.executions; versions = s.versions }) y i) [ inl no' ↦ absurd no' | inr f ↦ f ]

@@ -54,11 +54,15 @@ pub mod PointBegins
 pub mod PointBranches
 pub mod PointRuns
 pub mod PointSteps
-pub mod Refusals
 pub mod RegisterStory
 pub mod Registered
 pub mod Requesting
 pub mod Runs
+pub mod ServedAsking
+pub mod ServedCounts
+pub mod ServedCurrent
+pub mod ServedLaws
+pub mod ServedTenures
 pub mod Setups
 pub mod ShardRoles
 pub mod Single

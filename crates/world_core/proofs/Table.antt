@@ -58,7 +58,7 @@ use Rattle.world_core.specs.declared.envelope.Envelope.{Envelope}
 use Rattle.world_core.specs.Run.{sent_by, sent, message_at, names_node, arrives, suits, is_fresh, brought, state, IsStep, IsRun}
 use Rattle.world_core.proofs.LogReceivers.{LeaderWithin, VotesWithin, SendsWithin, RaftWithin, all_kept, raft_ticks, raft_takes}
 use Rattle.world_core.proofs.LogWorldRuns.{moving}
-use Rattle.world_core.proofs.Plain.{all_append}
+use Rattle.world_core.proofs.PointBranches.{all_append}
 use Rattle.world_core.proofs.Setups.{begins_within}
 
 -- ---- what names a node of the table

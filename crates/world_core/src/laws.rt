@@ -16,6 +16,7 @@ ghost use Rattle.world_core.specs.Quiet.{are_quiet};
 ghost use Rattle.world_core.specs.Run.{IsRun, is_requested, message_at, state};
 ghost use Rattle.world_core.specs.Story.{IsRegisterStory, story, path, answer, is_answered};
 ghost use Rattle.world_core.specs.Served.{IsNotServed};
+ghost use Rattle.world_core.specs.Serving.{is_served_by};
 ghost use Rattle.world_core.specs.Stored.{row_after, path_row};
 ghost use Rattle.world_core.specs.GivenUp.{IsGivenUp};
 ghost use Rattle.world_core.specs.Answers.{answers_to};
@@ -57,10 +58,11 @@ pub fn single_answers_of_runs()
         → (op : OpId) → answers_to past op ≤ 1 }
 {}
 
-/// In every run of requests, deliveries and operations that are given up alone, a node serves exactly the keys of the shards that have it as their primary.
+/// In every run, a node serves a key exactly where it is up, a contract of its table has the key and names it as the
+/// primary, and it made the key's current branch in its present life and in the contract's tenure.
 pub fn serving_of_runs()
-    ensures { (setup : SetupState) → IsSetup setup → (past : List Entry) → IsRun setup past → are_quiet past ≡ true
-        → (n : ℕ) (key : List ℕ) → serves (state setup n past) key ≡ list_any (λ s. is_led n s && has_key s.region setup.hashes key) setup.shards }
+    ensures { (setup : SetupState) → IsSetup setup → (past : List Entry) → IsRun setup past
+        → (n : ℕ) (key : List ℕ) → serves (state setup n past) key ≡ is_served_by (state setup n past) key }
 {}
 
 /// In every run, each message goes from a node of the table to a node of the table.
