@@ -49,6 +49,7 @@ pub mod OnceWaits
 pub mod Orders
 pub mod Outs
 pub mod Pairs
+pub mod PathOrder
 pub mod Plain
 pub mod PointBegins
 pub mod PointBranches

@@ -164,19 +164,6 @@ one_shard setup ok h k =
       | inr few ↦ few
     ]
 
--- a node serves a key where it is the primary of the key's shard
-pub serving : (n place : ℕ) (ss : List ShardConfig) (hashes : ℕ) (key : List ℕ)
-    → list_any (is_for hashes key) (executions_from n place ss) ≡ list_any (λ s. is_led n s && has_key s.region hashes key) ss
-serving n place [] hashes key = refl
-serving n place (s ∷ ss) hashes key =
-    let x : Execution = setup_execution (first_contract place s) s.primary place in
-    let rest : List Execution = executions_from n (place + 1) ss in
-    let same = serving n (place + 1) ss hashes key in
-    elim (is_led n s) as (λ b. list_any (is_for hashes key) (cond b (x ∷ rest) rest) ≡ ((b && has_key s.region hashes key) || list_any (λ s. is_led n s && has_key s.region hashes key) ss)) [
-      | true ↦ ap₂ (λ a b. a || b) (led_region place s (hash_of key hashes) key) same
-      | false ↦ same
-    ]
-
 -- ---- with which branch and timestamp a node begins
 
 rest_few : (c : Bool) (t : ℕ) → cond c (1 + t) t ≤ 1 → t ≤ 1

@@ -1,5 +1,4 @@
-//! What holds of runs. "Such a run" is one of requests, deliveries and operations that are given up alone: in it no node
-//! ticks, goes down or comes up.
+//! What holds of runs.
 ghost use Rattle.std.specs.Prelude.{◌≡◌, ◌≤◌, ◌<◌, ◌&&◌, ℕ, List, Some, None, IsTrue, true, false, is_some};
 ghost use Rattle.std.specs.List.{list_any};
 ghost use Rattle.contract_types.specs.Setup.{SetupState, IsSetup};

@@ -1,6 +1,6 @@
 //! What becomes of the points that operations took, over every run: nodes tick, go down and come up, and messages come in
 //! any order, again and again, or never.
-ghost use Rattle.std.specs.Prelude.{◌≡◌, ◌<◌, ℕ, List, ◌∷◌, ◌++◌, true};
+ghost use Rattle.std.specs.Prelude.{◌≡◌, ◌≢◌, ◌<◌, ℕ, List, ◌∷◌, ◌++◌, true};
 ghost use Rattle.contract_types.specs.Setup.{SetupState, IsSetup};
 ghost use Rattle.table_log.specs.Logs.{table_of};
 ghost use Rattle.node_core.specs.declared.journal.Entry.{Entry};
@@ -24,10 +24,14 @@ pub fn answered_points_stay()
 {}
 
 /// In every run, the operations on one key take its points in the order of the path: each point is on the path of every
-/// point of the key that is taken later.
+/// point of the key that is taken later, and what is on the path of a point, and is another one, was taken earlier.
 pub fn paths_of_runs()
-    ensures { (setup : SetupState) → IsSetup setup → (past : List Entry) → IsRun setup past
+    ensures on_path { (setup : SetupState) → IsSetup setup → (past : List Entry) → IsRun setup past
         → (first later : List Point) (q : Point) → points past ≡ first ++ q ∷ later
         → (p : Point) → IsIn first p → same_key p.key q.key ≡ true
         → is_before_on setup.hashes (told_table setup past).history p q ≡ true }
+    ensures earlier { (setup : SetupState) → IsSetup setup → (past : List Entry) → IsRun setup past
+        → (first later : List Point) (q : Point) → points past ≡ first ++ q ∷ later
+        → (p : Point) → IsIn (points past) p → same_key p.key q.key ≡ true → p ≢ q
+        → is_before_on setup.hashes (told_table setup past).history p q ≡ true → IsIn first p }
 {}
