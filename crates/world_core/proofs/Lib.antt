@@ -7,6 +7,7 @@ pub mod AskedRunsSteps
 pub mod AskedRunsTables
 pub mod Begun
 pub mod BegunPaths
+pub mod BranchStarts
 pub mod DrawnIds
 pub mod Facts
 pub mod GivingUp

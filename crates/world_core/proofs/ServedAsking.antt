@@ -44,6 +44,7 @@ use Rattle.world_core.proofs.LedAsked.{IsOwn, asking_own, lead_own, asked_run, a
 use Rattle.world_core.proofs.LedShards.{holder_is}
 use Rattle.world_core.proofs.LedKeys.{LedAt, led_at, asked_id, act_waits}
 use Rattle.world_core.proofs.OnPath.{ShardOf, shard_of, Current, current, birth_there, each_asked, one_first}
+use Rattle.world_core.proofs.Stays.{rest_history}
 use Rattle.world_core.proofs.ServedCurrent.{is_current_from}
 use Rattle.world_core.proofs.ServedCounts.{Goes, Lasts, Down, Up, row_goes}
 
@@ -165,10 +166,6 @@ module _ (setup : SetupState) (ok : IsSetup setup) (past : List Entry) (run : Is
 
       has_pair : in_region here.at.birth.region h k ≡ true
       has_pair = subst (λ (r : Region). in_region r h k ≡ true) (sym here.region_is) inside
-
-      rest_history : (ns bs : Branches) → IsHistory (ns ++ bs) → IsHistory bs
-      rest_history [] bs l = l
-      rest_history (x ∷ ns) bs l = rest_history ns bs l.3
 
       -- another one would have the first pair too, and be newer
       no_other : (b : Id) → branch_at H h k ≡ Some b → (b ≡ a.branch → ⊥) → ⊥

@@ -39,6 +39,7 @@ use Rattle.world_core.proofs.LedRows.{Lead, lead_of, leads_of, kept}
 use Rattle.world_core.proofs.LedRoles.{IsLed, some_there}
 use Rattle.world_core.proofs.LedRuns.{run_roles, is_history}
 use Rattle.world_core.proofs.LedAsked.{lead_own}
+use Rattle.world_core.proofs.LedShards.{leads_in}
 use Rattle.world_core.proofs.OnPath.{current, birth_there}
 use Rattle.world_core.proofs.ServedAsking.{asking_is, asked_here, written_current, waits}
 use Rattle.world_core.proofs.ServedCounts.{counted}
@@ -79,10 +80,6 @@ some_has place (x ∷ xs) g key l =
       | true ↦ λ e _. record { x = x; is_in = inl refl; has = e }
       | false ↦ λ _ m. let r = some_has place xs g key m in record { x = r.x; is_in = inr r.is_in; has = r.has }
     ] refl l
-
-lead_in : (xs : List Execution) (x : Execution) → IsIn xs x → IsIn (leads_of xs) (lead_of x)
-lead_in [] x i = i
-lead_in (y ∷ ys) x i = elim i [ inl e ↦ inl (ap lead_of e) | inr j ↦ inr (lead_in ys x j) ]
 
 both_or : (a b : Bool) → (a ≡ true → b ≡ true) → (b ≡ true → a ≡ true) → a ≡ b
 both_or true b f g = sym (f refl)
@@ -150,7 +147,7 @@ module _ (setup : SetupState) (ok : IsSetup setup) (past : List Entry) (run : Is
   served : (x : Execution) → IsIn s.executions x → is_for s.setup.hashes key x ≡ true → is_served_by s key ≡ true
   served x i for =
       let l : Lead = lead_of x in
-      let l_in : IsIn (kept s).leads l = lead_in s.executions x i in
+      let l_in : IsIn (kept s).leads l = leads_in s.executions x i in
       let has : in_region x.contract.region g key ≡ true = subst (λ (v : SetupState). is_for v.hashes key x ≡ true) of for in
       let is : IsLed setup n s.life l = all_at (IsLed setup n s.life) (kept s).leads (run_roles setup ok past run n).roles.leads l l_in in
       let c : Contract = x.contract in

@@ -67,7 +67,7 @@ points_by past m q early i = subst (λ (l : List Entry). IsIn (points l) q) (sym
 
 -- ---- histories
 
-rest_history : (ns bs : Branches) → IsHistory (ns ++ bs) → IsHistory bs
+pub rest_history : (ns bs : Branches) → IsHistory (ns ++ bs) → IsHistory bs
 rest_history [] bs h = h
 rest_history (n ∷ ns) bs h = rest_history ns bs h.3
 
