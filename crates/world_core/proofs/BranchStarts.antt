@@ -1,28 +1,26 @@
 -- In every run a primary starts a branch from its own versions, and what was answered is on their paths.
-use Rattle.std.proofs.Common.{◌≡◌, ◌⊎◌, ◌==◌, ℕ, ◌+◌, ◌<◌, true, cond, List, [], ◌∷◌, ◌++◌, sum, Option, Some, None, inl, inr, refl, sym, ap, ◌∙◌, subst, arith, append_assoc}
+use Rattle.std.proofs.Common.{◌≡◌, ◌⊎◌, ◌==◌, ℕ, true, List, [], ◌∷◌, ◌++◌, sum, Some, None, inl, inr, refl, sym, ap, ◌∙◌, subst, arith, append_assoc}
 use Rattle.std.proofs.Math.Nat.{mod-lt}
 use Rattle.std.proofs.lemmas.Bool.{eq-eqb, ltb-true}
 use Rattle.region_map.specs.declared.id.Id.{Id}
 use Rattle.region_map.specs.declared.id.NodeId.{NodeId}
-use Rattle.region_map.specs.declared.region.Region.{Region}
 use Rattle.region_map.specs.Keys.{hash_of}
 use Rattle.region_map.specs.Nodes.{node_id}
 use Rattle.region_map.specs.Regions.{in_region}
 use Rattle.region_map.specs.Maps.{value_at}
 use Rattle.branch_history.specs.declared.version.Version.{Version}
 use Rattle.branch_history.specs.declared.history.BranchBirth.{BranchBirth}
-use Rattle.branch_history.specs.Paths.{Branches, or_zero, origin_at, is_on}
+use Rattle.branch_history.specs.Paths.{Branches, or_zero, is_on}
 use Rattle.branch_history.specs.Histories.{knows, birth_of, IsHistory}
 use Rattle.contract_types.specs.declared.config.ShardConfig.{ShardConfig}
 use Rattle.contract_types.specs.declared.contract.Contract.{Contract}
 use Rattle.contract_types.specs.Setup.{SetupState, IsSetup}
-use Rattle.contract_types.specs.Tables.{Table, branch_at, first_contracts}
+use Rattle.contract_types.specs.Tables.{first_contracts}
 use Rattle.table_log.specs.declared.results.Viewed.{Viewed}
 use Rattle.table_log.specs.Logs.{table_of, caught_up, viewed}
 use Rattle.store_api.specs.Rows.{has_key}
 use Rattle.store_api.specs.Versions.{point, version_of}
 use Rattle.primary_exec.specs.declared.asking.Asking.{Asking}
-use Rattle.primary_exec.specs.Execution.{Execution}
 use Rattle.node_core.specs.declared.journal.Entry.{Entry}
 use Rattle.node_core.specs.Starting.{due}
 use Rattle.node_core.specs.Step.{NodeState, Stepped, input_row, act_on, act}
@@ -36,11 +34,11 @@ use Rattle.world_core.proofs.PointBranches.{all_at}
 use Rattle.world_core.proofs.Runs.{some_hash}
 use Rattle.world_core.proofs.DrawnIds.{asked_once}
 use Rattle.world_core.proofs.LedHistories.{some_inner, birth_known, birth_longer, newer_apart}
-use Rattle.world_core.proofs.LedRows.{Lead, lead_of, leads_of, Kept, kept, Done, Still, Dispatches, Streams, GoesDown, ComesUp}
+use Rattle.world_core.proofs.LedRows.{Lead, lead_of, Kept, kept, Done, Still, Dispatches, Streams, GoesDown, ComesUp}
 use Rattle.world_core.proofs.LedRoles.{asked_from, role_of, lead_region, asking_region, IsAsking, IsLed, asked_led, some_there}
-use Rattle.world_core.proofs.LedRuns.{run_roles, earlier_run, history_grows, is_history}
+use Rattle.world_core.proofs.LedRuns.{run_roles, earlier_run, history_grows}
 use Rattle.world_core.proofs.LedAsked.{asking_own, lead_own}
-use Rattle.world_core.proofs.LedStarts.{IsDue, IsStarted, start_in}
+use Rattle.world_core.proofs.LedStarts.{IsStarted, start_in}
 use Rattle.world_core.proofs.LedShards.{holder_is, leads_in}
 use Rattle.world_core.proofs.LedKeys.{LedAt, led_at, roles_row_is, row, kept_here, due_from}
 use Rattle.world_core.proofs.OnPath.{shard_of, birth_there}
@@ -157,14 +155,12 @@ started_from setup ok past e run a w key has =
     (lead_of w.execution) (subst (λ k. IsIn (kept (state setup k (e ∷ past))).leads (lead_of w.execution)) (sym who) l_in) w.branch_is)
 
 pub starts_from : (setup : SetupState) → IsSetup setup → (past : List Entry) (e : Entry) → IsRun setup (e ∷ past) → (a : Asking) → Starts setup past e a → (key : List ℕ) → has_key a.contract.region setup.hashes key ≡ true
-    → (birth : BranchBirth) → birth_of (table_of (state setup e.node.0 (e ∷ past)).log).history a.branch ≡ Some birth
-    → value_at birth.origin.pieces (hash_of key setup.hashes) key ≡ version_of (state setup e.node.0 past).versions key
-starts_from setup ok past e run a w key has birth is =
+    → (birth : BranchBirth) × (birth_of (history_of setup e.node.0 (e ∷ past)) a.branch ≡ Some birth) × (value_at birth.origin.pieces (hash_of key setup.hashes) key ≡ version_of (state setup e.node.0 past).versions key)
+starts_from setup ok past e run a w key has =
     let f = started_from setup ok past e run a w key has in
     let s : NodeState = state setup e.node.0 past in
-    let same : birth ≡ f.birth = some_inner birth f.birth (sym is ∙ f.registered) in
     let hashes : s.versions.hashes ≡ setup.hashes = (run_roles setup ok past run.1 e.node.0).roles.hashes_are in
-    ap (λ (b : BranchBirth). value_at b.origin.pieces (hash_of key setup.hashes) key) same ∙ f.origin ∙ ap (λ h. value_at s.versions.pieces (hash_of key h) key) (sym hashes)
+    (f.birth, f.registered, f.origin ∙ ap (λ h. value_at s.versions.pieces (hash_of key h) key) (sym hashes))
 
 pub starts_answered : (setup : SetupState) → IsSetup setup → (past : List Entry) → IsRun setup past → (later earlier : List Entry) (e : Entry) → past ≡ later ++ e ∷ earlier → (a : Asking) → Starts setup earlier e a
     → (q : Point) → IsDoneAt past q → has_key a.contract.region setup.hashes q.key ≡ true → (newer older : Branches) (birth : BranchBirth) → (told_table setup past).history ≡ newer ++ (a.branch, birth) ∷ older

@@ -1,6 +1,6 @@
 -- For whom the messages of the log are: a node of the log knows nodes of the table alone, and sends to them alone.
-use Rattle.std.proofs.Common.{◌≡◌, ℕ, zero, suc, ◌+◌, ◌==◌, max, Bool, true, false, cond, not, ◌&&◌, nat_lt, List, [], ◌∷◌, ◌++◌, length, map, filter, slice_set, Option, Some, None}
-use Rattle.std.proofs.lemmas.Bool.{cond_both, and_parts}
+use Rattle.std.proofs.Common.{◌≡◌, ℕ, ◌+◌, ◌==◌, max, Bool, true, false, cond, not, ◌&&◌, nat_lt, List, [], ◌∷◌, ◌++◌, length, map, filter, slice_set, Option, Some, None}
+use Rattle.std.proofs.lemmas.Bool.{cond_both}
 use Rattle.std.specs.List.{AllByRecursion}
 use Rattle.region_map.specs.declared.id.NodeId.{NodeId}
 use Rattle.region_map.specs.Nodes.{node_id, has, with_member, without, is_majority}
@@ -11,14 +11,13 @@ use Rattle.raft_vote.specs.declared.votes.Role.{Role}
 use Rattle.raft_vote.specs.declared.votes.Role.TheVariants.{Follower, Candidate, Leader}
 use Rattle.raft_vote.specs.State.{VoteState}
 use Rattle.raft_vote.specs.Log.{last_term}
-use Rattle.raft_vote.specs.Rows.{Asking, alone, others, is_leader, wins, with_grants, election, starts_election, waiting, vote_tick, asks, take_term, following, grants, with_vote, vote_asked, counted, vote_said}
-use Rattle.raft_append.specs.Merge.{Taken, taken}
+use Rattle.raft_vote.specs.Rows.{Asking, alone, others, is_leader, wins, with_grants, election, starts_election, waiting, vote_tick, asks, take_term, following, grants, with_vote, counted, vote_said}
+use Rattle.raft_append.specs.Merge.{taken}
 use Rattle.raft_append.specs.Peers.{progress_at, progressed, reset_to}
 use Rattle.raft_append.specs.Commit.{decided}
-use Rattle.raft_node.specs.declared.input.RaftInput.{RaftInput}
 use Rattle.raft_node.specs.declared.input.RaftInput.TheVariants.{Tick, Deliver}
 use Rattle.raft_node.specs.State.{RaftState}
-use Rattle.raft_node.specs.Rows.{RaftStepped, is_full, append_to, append_all, with_entry, won, elected, elect_row, tick_row, ask_row, vote_row, answered, append_row, say_row, deliver_row, input_row, advanced, raft_step}
+use Rattle.raft_node.specs.Rows.{RaftStepped, is_full, append_to, append_all, with_entry, won, elected, elect_row, tick_row, answered, append_row, say_row, deliver_row, advanced, raft_step}
 
 abbrev IsBelow : ℕ → ℕ → Type 0
 IsBelow nodes k = nat_lt k nodes ≡ true

@@ -1,7 +1,7 @@
 -- In every run a node writes the current branch of each pair of the regions in which it writes one, and no branch for which it asks is current.
-use Rattle.std.proofs.Common.{◌≡◌, ◌⊎◌, ◌==◌, ℕ, ◌+◌, ◌<◌, ◌≤◌, Bool, true, false, cond, List, [], ◌∷◌, ◌++◌, sum, Option, Some, None, inl, inr, refl, sym, ap, ◌∙◌, subst, arith, append_assoc}
+use Rattle.std.proofs.Common.{◌≡◌, ◌==◌, ℕ, ◌+◌, ◌<◌, true, cond, List, [], ◌∷◌, ◌++◌, sum, Option, Some, None, inl, inr, refl, sym, ap, ◌∙◌, subst, arith, append_assoc}
 use Rattle.std.proofs.Math.Nat.{mod-lt}
-use Rattle.std.proofs.lemmas.Bool.{cond_both, cases_Bool, both_ways, eqb-true}
+use Rattle.std.proofs.lemmas.Bool.{cases_Bool, both_ways}
 use Rattle.region_map.specs.declared.id.Id.{Id}
 use Rattle.region_map.specs.declared.id.NodeId.{NodeId}
 use Rattle.region_map.specs.declared.region.Region.{Region}
@@ -22,10 +22,9 @@ use Rattle.table_log.specs.declared.results.Viewed.{Viewed}
 use Rattle.table_log.specs.Fitting.{changes_of}
 use Rattle.table_log.specs.Logs.{LogState, table_of, caught_up, viewed}
 use Rattle.primary_exec.specs.declared.asking.Asking.{Asking}
-use Rattle.primary_exec.specs.Execution.{Execution}
 use Rattle.node_core.specs.declared.journal.Entry.{Entry}
 use Rattle.node_core.specs.Starting.{initial_of, is_current, due}
-use Rattle.node_core.specs.Step.{NodeState, Stepped, input_row, act_on, end_step, askings_from}
+use Rattle.node_core.specs.Step.{NodeState, Stepped, input_row, act_on, end_step}
 use Rattle.world_core.specs.Run.{state, brought, IsRun}
 use Rattle.world_core.specs.Story.{IsIn}
 use Rattle.world_core.proofs.Asked.{Asked, IsAsked, history_of, Stale}
@@ -39,8 +38,8 @@ use Rattle.world_core.proofs.LedMaps.{some_of}
 use Rattle.world_core.proofs.LedHistories.{some_inner, knows_one, knows_longer, birth_known, Stands, older_one, current_known}
 use Rattle.world_core.proofs.LedRows.{Lead, kept}
 use Rattle.world_core.proofs.LedRoles.{asked_from, asking_region, IsAsking, IsLed, asked_led, asked_count, contracts_few, one_of_few}
-use Rattle.world_core.proofs.LedRuns.{run_roles, row_life, act_life, config_is, all_fit, is_history, history_stays}
-use Rattle.world_core.proofs.LedAsked.{IsOwn, asking_own, lead_own, asked_run, asked_own, current_some, table_hashes, CameBy, came, known_life, all_stale}
+use Rattle.world_core.proofs.LedRuns.{run_roles, config_is, all_fit, is_history, history_stays}
+use Rattle.world_core.proofs.LedAsked.{asked_run, asked_own, current_some, table_hashes, came, known_life, all_stale}
 use Rattle.world_core.proofs.LedShards.{holder_is}
 use Rattle.world_core.proofs.LedKeys.{LedAt, led_at, asked_id, act_waits}
 use Rattle.world_core.proofs.OnPath.{ShardOf, shard_of, Current, current, birth_there, each_asked, one_first}

@@ -1,5 +1,5 @@
 -- In every run a node that is up asks for a branch, or writes one, in each of its shards; and what asks is not current yet.
-use Rattle.std.proofs.Common.{◌≡◌, ◌==◌, ℕ, ◌+◌, ◌<◌, Bool, true, false, cond, ◌&&◌, not, nat_lt, List, [], ◌∷◌, ◌++◌, map, Option, Some, None, refl, sym, ap, ap₂, ◌∙◌, subst, arith}
+use Rattle.std.proofs.Common.{◌≡◌, ◌==◌, ℕ, ◌+◌, true, false, cond, ◌&&◌, not, List, [], ◌∷◌, map, Option, Some, None, refl, sym, ap, ap₂, ◌∙◌, arith}
 use Rattle.std.proofs.lemmas.Bool.{cond_both}
 use Rattle.region_map.specs.declared.id.NodeId.{NodeId}
 use Rattle.region_map.specs.Nodes.{node_id}
@@ -24,7 +24,7 @@ use Rattle.primary_exec.specs.Execution.{Execution, started, with_acked, with_st
 use Rattle.node_core.specs.declared.node.Brought.{Brought}
 use Rattle.node_core.specs.declared.journal.Entry.{Entry}
 use Rattle.node_core.specs.Starting.{Starting, due, start_one, start_each}
-use Rattle.node_core.specs.Step.{NodeState, Stepped, silent, leads, coordinates, propose_one, propose_all, with_proposals, message_row, is_well_formed, brought_row, input_row, act_on, act, end_step, node_step, askings_from, executions_from}
+use Rattle.node_core.specs.Step.{NodeState, Stepped, silent, leads, coordinates, propose_one, propose_all, with_proposals, message_row, is_well_formed, brought_row, input_row, act_on, act, node_step, askings_from}
 use Rattle.world_core.specs.Run.{state, brought, IsRun}
 use Rattle.world_core.proofs.AskedRuns.{contracts_stay}
 use Rattle.world_core.proofs.LogWorldRuns.{moving}
@@ -33,7 +33,7 @@ use Rattle.world_core.proofs.Nodes.{holders-same}
 use Rattle.world_core.proofs.Requesting.{request_regions}
 use Rattle.world_core.proofs.KeyedNodes.{regions_map}
 use Rattle.world_core.proofs.KeyedRoles.{asking_region, led, holders-append, holders-placed, executions_led, askings_led}
-use Rattle.world_core.proofs.LedRuns.{StateRoles, run_roles}
+use Rattle.world_core.proofs.LedRuns.{run_roles}
 
 -- ---- what a row does to them
 

@@ -1,7 +1,7 @@
 -- In every run a node serves exactly the keys that it is to serve by its table.
-use Rattle.std.proofs.Common.{◌≡◌, ◌⊎◌, ◌==◌, ℕ, ◌+◌, ◌<◌, ◌≤◌, Bool, true, false, cond, not, ◌&&◌, ◌||◌, List, [], ◌∷◌, sum, Option, Some, None, is_some, inl, inr, refl, sym, ap, ◌∙◌, subst, arith}
+use Rattle.std.proofs.Common.{◌≡◌, ◌==◌, ℕ, ◌+◌, ◌<◌, ◌≤◌, Bool, true, false, cond, ◌&&◌, ◌||◌, List, [], ◌∷◌, sum, Option, Some, None, inl, inr, refl, sym, ap, ◌∙◌, subst, arith}
 use Rattle.std.proofs.Math.Nat.{mod-lt}
-use Rattle.std.proofs.lemmas.Bool.{and_parts, and_from, eqb-true, eq-eqb, cases_Bool, cases_lt, both_ways, false_from_ne_true}
+use Rattle.std.proofs.lemmas.Bool.{and_parts, and_from, eqb-true, eq-eqb, cases_lt}
 use Rattle.std.specs.List.{list_any}
 use Rattle.region_map.specs.declared.id.Id.{Id}
 use Rattle.region_map.specs.declared.id.NodeId.{NodeId}
@@ -9,7 +9,6 @@ use Rattle.region_map.specs.declared.region.Region.{Region}
 use Rattle.region_map.specs.Keys.{hash_of}
 use Rattle.region_map.specs.Nodes.{node_id}
 use Rattle.region_map.specs.Regions.{in_region}
-use Rattle.branch_history.specs.declared.history.BranchBirth.{BranchBirth}
 use Rattle.branch_history.specs.Paths.{Branches}
 use Rattle.branch_history.specs.Histories.{birth_of, IsHistory}
 use Rattle.contract_types.specs.declared.config.ShardConfig.{ShardConfig}
@@ -29,21 +28,20 @@ use Rattle.node_core.specs.Step.{NodeState, serves, is_led}
 use Rattle.world_core.specs.Run.{state, IsRun}
 use Rattle.world_core.specs.Story.{IsIn}
 use Rattle.world_core.specs.Serving.{is_primary, is_of_tenure, is_made_in, is_served_under, is_served_by}
-use Rattle.world_core.proofs.Asked.{history_of}
 use Rattle.world_core.proofs.AskedRuns.{contracts_stay, config_stays}
 use Rattle.world_core.proofs.PointBranches.{all_at}
 use Rattle.world_core.proofs.Runs.{some_hash}
 use Rattle.world_core.proofs.Setups.{exec_region}
 use Rattle.world_core.proofs.KeyedRoles.{asking_region, led}
-use Rattle.world_core.proofs.LedRows.{Lead, lead_of, leads_of, kept}
+use Rattle.world_core.proofs.LedRows.{Lead, lead_of, kept}
 use Rattle.world_core.proofs.LedRoles.{IsLed, some_there}
 use Rattle.world_core.proofs.LedRuns.{run_roles, is_history}
 use Rattle.world_core.proofs.LedAsked.{lead_own}
 use Rattle.world_core.proofs.LedShards.{leads_in}
 use Rattle.world_core.proofs.OnPath.{current, birth_there}
-use Rattle.world_core.proofs.ServedAsking.{asking_is, asked_here, written_current, waits}
+use Rattle.world_core.proofs.ServedAsking.{asked_here, written_current, waits}
 use Rattle.world_core.proofs.ServedCounts.{counted}
-use Rattle.world_core.proofs.ServedTenures.{IsFirst, is_first, tenure_0}
+use Rattle.world_core.proofs.ServedTenures.{is_first, tenure_0}
 
 -- ---- lists
 

@@ -1,14 +1,13 @@
 -- In every run all contracts are of tenure 0 and hand over to no node, and so are the branches that were registered under them.
-use Rattle.std.proofs.Common.{◌≡◌, ℕ, zero, suc, ◌+◌, List, [], ◌∷◌, ◌++◌, Option, Some, None, inl, inr, refl, sym, ap, ◌∙◌, subst}
+use Rattle.std.proofs.Common.{◌≡◌, ℕ, ◌+◌, List, [], ◌∷◌, ◌++◌, Some, None, inl, inr, refl, sym, ap, ◌∙◌, subst}
 use Rattle.std.specs.List.{AllByRecursion}
 use Rattle.region_map.specs.declared.id.Id.{Id}
-use Rattle.region_map.specs.declared.id.NodeId.{NodeId}
 use Rattle.branch_history.specs.declared.history.BranchBirth.{BranchBirth}
 use Rattle.branch_history.specs.Paths.{Branches}
 use Rattle.contract_types.specs.declared.config.ShardConfig.{ShardConfig}
 use Rattle.contract_types.specs.declared.contract.Contract.{Contract}
 use Rattle.contract_types.specs.Setup.{SetupState, IsSetup}
-use Rattle.contract_types.specs.Tables.{first_contract, first_contracts, first_id, first_birth, first_branches}
+use Rattle.contract_types.specs.Tables.{first_contracts, first_id, first_birth, first_branches}
 use Rattle.table_log.specs.Fitting.{changes_of}
 use Rattle.node_core.specs.declared.journal.Entry.{Entry}
 use Rattle.world_core.specs.Run.{state, IsRun}

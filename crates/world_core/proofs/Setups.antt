@@ -1,8 +1,8 @@
 -- What a table begins with: each pair lies in one shard at most, and a primary stands at its branch.
-use Rattle.std.proofs.Common.{◌≡◌, ◌==◌, ℕ, ◌+◌, ◌<◌, ◌≤◌, Bool, true, false, cond, ◌&&◌, ◌||◌, not, nat_lt, List, [], ◌∷◌, ◌++◌, Option, Some, is_some, inl, inr, refl, sym, ap, ap₂, ◌∙◌, arith}
+use Rattle.std.proofs.Common.{◌≡◌, ◌==◌, ℕ, ◌+◌, ◌<◌, ◌≤◌, Bool, true, false, cond, ◌&&◌, not, nat_lt, List, [], ◌∷◌, ◌++◌, Option, Some, is_some, inl, inr, refl, sym, ap, ◌∙◌, arith}
 use Rattle.std.proofs.lemmas.Bool.{eqb-true, cases_lt, cond_both, cond-true}
 use Rattle.std.proofs.lemmas.Bool.Decides.{nat_tests}
-use Rattle.std.specs.List.{list_any, AllByRecursion}
+use Rattle.std.specs.List.{AllByRecursion}
 use Rattle.region_map.specs.declared.id.Id.{Id}
 use Rattle.region_map.specs.declared.id.NodeId.{NodeId}
 use Rattle.region_map.specs.declared.region.Region.{Region}
@@ -18,7 +18,6 @@ use Rattle.contract_types.specs.Tilings.{holders}
 use Rattle.contract_types.specs.Configs.{shard_region}
 use Rattle.contract_types.specs.Setup.{SetupState, IsSetup}
 use Rattle.contract_types.specs.Tables.{setup_id, first_id, first_birth, first_contract, first_branches, branch_at}
-use Rattle.store_api.specs.Rows.{has_key}
 use Rattle.store_api.specs.Versions.{point, replaced_map, zero_map}
 use Rattle.store_api.proofs.VersionMaps.{replaced_map_hashes, replaced_map_at, zero_map_hashes, zero_map_at}
 use Rattle.exec_types.specs.Sessions.{setup_session_name}

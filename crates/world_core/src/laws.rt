@@ -1,15 +1,15 @@
-//! What holds of runs.
-ghost use Rattle.std.specs.Prelude.{◌≡◌, ◌≤◌, ◌<◌, ◌&&◌, ℕ, List, Some, None, IsTrue, true, false, is_some};
-ghost use Rattle.std.specs.List.{list_any};
+//! What holds of runs. "Such a run" is one of requests, deliveries and operations that are given up alone: in it no node
+//! ticks, goes down or comes up.
+ghost use Rattle.std.specs.Prelude.{◌≡◌, ◌≤◌, ◌<◌, ℕ, List, Some, None, IsTrue, true, false, is_some};
 ghost use Rattle.contract_types.specs.Setup.{SetupState, IsSetup};
 ghost use Rattle.register_laws.specs.declared.operation.OpId.{OpId};
 ghost use Rattle.contract_types.specs.declared.counts.Counts.{Counts};
 ghost use Rattle.exec_types.specs.declared.outcome.Outcome.TheVariants.{NotServing, NoMajority};
 ghost use Rattle.branch_history.specs.declared.version.Version.{Version};
-ghost use Rattle.store_api.specs.Rows.{has_key, row_of};
+ghost use Rattle.store_api.specs.Rows.{row_of};
 ghost use Rattle.store_api.specs.Versions.{version_of};
 ghost use Rattle.node_core.specs.declared.journal.Entry.{Entry};
-ghost use Rattle.node_core.specs.Step.{is_led, serves};
+ghost use Rattle.node_core.specs.Step.{serves};
 ghost use Rattle.world_core.specs.declared.envelope.Envelope.{Envelope};
 ghost use Rattle.world_core.specs.Quiet.{are_quiet};
 ghost use Rattle.world_core.specs.Run.{IsRun, is_requested, message_at, state};
@@ -58,7 +58,7 @@ pub fn single_answers_of_runs()
 {}
 
 /// In every run, a node serves a key exactly where it is up, a contract of its table has the key and names it as the
-/// primary, and it made the key's current branch in its present life and in the contract's tenure.
+/// primary with no hand-over, and it made the key's current branch in its present life and in the contract's tenure.
 pub fn serving_of_runs()
     ensures { (setup : SetupState) → IsSetup setup → (past : List Entry) → IsRun setup past
         → (n : ℕ) (key : List ℕ) → serves (state setup n past) key ≡ is_served_by (state setup n past) key }
@@ -72,7 +72,7 @@ pub fn messages_of_runs()
         → (number : ℕ) (message : Envelope) → message_at past number ≡ Some message → message.to.0 < setup.nodes }
 {}
 
-/// In every run of requests, deliveries and operations that are given up alone, each key has a version at each node, and its row there is what the operations on it left that lie on
+/// In every such run, each key has a version at each node, and its row there is what the operations on it left that lie on
 /// the path of that version: a put, a deletion and a compare-and-set that swapped leave their timestamp as the row's
 /// recency, a read and one that did not swap change nothing, and a deleted key keeps a row without a value. At the
 /// node that serves a key these are all operations on the path of the key's branch.

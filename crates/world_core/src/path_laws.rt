@@ -52,8 +52,8 @@ pub fn paths_of_runs()
 pub fn starts_have_answered_points()
     ensures from { (setup : SetupState) → IsSetup setup → (past : List Entry) (e : Entry) → IsRun setup (e ∷ past)
         → (a : Asking) → Starts setup past e a → (key : List ℕ) → has_key a.contract.region setup.hashes key ≡ true
-        → (birth : BranchBirth) → birth_of (table_of (state setup e.node.0 (e ∷ past)).log).history a.branch ≡ Some birth
-        → value_at birth.origin.pieces (hash_of key setup.hashes) key ≡ version_of (state setup e.node.0 past).versions key }
+        → (birth : BranchBirth) × (birth_of (table_of (state setup e.node.0 (e ∷ past)).log).history a.branch ≡ Some birth)
+        × (value_at birth.origin.pieces (hash_of key setup.hashes) key ≡ version_of (state setup e.node.0 past).versions key) }
     ensures answered { (setup : SetupState) → IsSetup setup → (past : List Entry) → IsRun setup past
         → (later earlier : List Entry) (e : Entry) → past ≡ later ++ e ∷ earlier → (a : Asking) → Starts setup earlier e a
         → (q : Point) → IsDoneAt past q → has_key a.contract.region setup.hashes q.key ≡ true
