@@ -69,7 +69,7 @@ asked_drawn me life next (c ∷ cs) a i =
       | false ↦ λ j. asked_drawn me life next cs a j
     ] i
 
-asked_once : (me : NodeId) (life next : ℕ) (cs : List Contract) (a b : Asking) → IsIn (askings_from me life next cs) a → IsIn (askings_from me life next cs) b → a.branch ≡ b.branch → a ≡ b
+pub asked_once : (me : NodeId) (life next : ℕ) (cs : List Contract) (a b : Asking) → IsIn (askings_from me life next cs) a → IsIn (askings_from me life next cs) b → a.branch ≡ b.branch → a ≡ b
 asked_once me life next [] a b i j e = absurd i
 asked_once me life next (c ∷ cs) a b i j e =
     let first : Asking = record { contract = c; branch = id_in me life next } in

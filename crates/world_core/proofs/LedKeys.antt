@@ -125,7 +125,7 @@ still_waits me t (a ∷ rest) s y i =
       | inr f ↦ inr f
     ]
 
-act_waits : (step : Stepped) (vw : Viewed) (y : Asking) → IsIn (act_on step (Some vw)).node.asking y → due (table_of (caught_up step.node.log)) y ≡ None
+pub act_waits : (step : Stepped) (vw : Viewed) (y : Asking) → IsIn (act_on step (Some vw)).node.asking y → due (table_of (caught_up step.node.log)) y ≡ None
 act_waits step vw y i =
     let s : NodeState = step.node in
     elim (still_waits s.me (table_of (caught_up s.log)) s.asking (record { asking = []; executions = s.executions; versions = s.versions }) y i) [ inl no' ↦ absurd no' | inr f ↦ f ]
@@ -296,16 +296,16 @@ module _ (setup : SetupState) (ok : IsSetup setup) (shard : ShardConfig) (i : Is
       here : state setup p (e ∷ past) ≡ (end_step step).node
       here = ap (λ b. cond b (moving setup past e p) (state setup p past)) own
 
-      kept_here : kept (state setup p (e ∷ past)) ≡ kept (act step).node
+      pub kept_here : kept (state setup p (e ∷ past)) ≡ kept (act step).node
       kept_here = ap kept here ∙ ends_kept step
 
       roles_before : StateRoles setup p s
       roles_before = run_roles setup ok past run.1 p
 
-      row : Done (node_id p) setup.hashes (first_contracts 0 setup.shards) (kept s) (kept step.node) (points_of e.input step.outs)
+      pub row : Done (node_id p) setup.hashes (first_contracts 0 setup.shards) (kept s) (kept step.node) (points_of e.input step.outs)
       row = row_is setup p s e.input (brought past e.input) roles_before.me_is roles_before.of (contracts_stay setup ok past run.1 p)
 
-      roles_row_is : Roles setup p (kept step.node)
+      pub roles_row_is : Roles setup p (kept step.node)
       roles_row_is = roles_row setup ok p (kept s) (kept step.node) (points_of e.input step.outs) roles_before.roles row
 
       abbrev ps : List Point
@@ -412,6 +412,19 @@ module _ (setup : SetupState) (ok : IsSetup setup) (shard : ShardConfig) (i : Is
                   not_stale setup ok (changes_of log.raft.log) (all_fit setup (e ∷ past) run p) log.acted at.newer at.older (a.branch, birth) g key before.branch now_led.birth (value_at c.based_on.pieces g key)
                   (sym is ∙ at.is) in_it older.newer older.older older.is now_led.inside (sym (c.based g key within in_it))
                   (subst (λ (bs : Branches). Stale bs before.branch a.branch (value_at c.based_on.pieces g key)) is stale)
+
+      -- that is where it stood as the step began
+      pub due_from : (vw : Viewed) → viewed step.node.log ≡ Some vw → (a : Asking) → IsIn step.node.asking a → in_region a.contract.region g key ≡ true → (initial : ℕ)
+          → due (table_of (caught_up step.node.log)) a ≡ Some initial → IsDue H g key step.node.life before.version a initial
+      due_from vw acts a j has initial may =
+          elim row_led.same [
+            | inl same ↦ subst (λ (v : Version). IsDue H g key step.node.life v a initial) same (dues vw acts a j has initial may)
+            | inr lead ↦
+                let o = roles_row_is.one g key in
+                let u = some_there lead_region (kept step.node).leads g key lead.x lead.is_in lead.has in
+                let w = some_there asking_region step.node.asking g key a j has in
+                absurd (omega (arith, o, u, w))
+          ]
 
       ended : EndLed H g key ps before.version before.branch (kept (act step).node)
       ended = acts_led setup p H hist g key within ps before.version before.branch step (viewed step.node.log) roles_row_is row_led.now now_led row_led.same dues

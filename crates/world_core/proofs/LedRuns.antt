@@ -197,8 +197,13 @@ pub config_is : (setup : SetupState) (past : List Entry) → IsRun setup past �
     → history_of setup n past ≡ (table_at setup (changes_of (state setup n past).log.raft.log) (state setup n past).log.acted).history
 config_is setup past h n = ap (λ (c : ConfigState). (table_at c (changes_of (state setup n past).log.raft.log) (state setup n past).log.acted).history) ((run_facts setup past h).config n)
 
-pub history_grows : (setup : SetupState) (past m : List Entry) → IsRun setup past → IsEarlier past m → (n : ℕ) → Longer (history_of setup n m) (history_of setup n past)
-history_grows setup past m h early n =
+-- the branches that it had then follow from the log that it has now
+pub record Within (setup : SetupState) (past m : List Entry) (n : ℕ) : Type 0 where
+  pub rises : (state setup n m).log.acted ≤ (state setup n past).log.acted
+  pub older : history_of setup n m ≡ (table_at setup (changes_of (state setup n past).log.raft.log) (state setup n m).log.acted).history
+
+pub history_within : (setup : SetupState) (past m : List Entry) → IsRun setup past → IsEarlier past m → (n : ℕ) → Within setup past m n
+history_within setup past m h early n =
     let s = (state setup n m).log in
     let t = (state setup n past).log in
     let before = earlier_run setup past m h early in
@@ -212,10 +217,22 @@ history_grows setup past m h early n =
     let same : take s.acted s.raft.log ≡ take s.acted t.raft.log =
     sym (take-take s.acted s.acted s.raft.log low) ∙ sym (take-append-le s.acted (take s.acted s.raft.log) front.rest long)
     ∙ ap (take s.acted) (sym front.is) ∙ take-take s.acted t.acted t.raft.log rises in
-    let older : history_of setup n m ≡ (table_at setup (changes_of t.raft.log) s.acted).history =
-    config_is setup m before n ∙ ap (λ (x : Table). x.history) (same_entries setup s.raft.log t.raft.log s.acted same) in
-    same_longer (history_of setup n m) (table_at setup (changes_of t.raft.log) s.acted).history (history_of setup n past) (table_at setup (changes_of t.raft.log) t.acted).history older (config_is setup past h n)
-    (table_longer setup (changes_of t.raft.log) t.acted s.acted rises)
+    record { rises = rises; older = config_is setup m before n ∙ ap (λ (x : Table). x.history) (same_entries setup s.raft.log t.raft.log s.acted same) }
+
+pub history_grows : (setup : SetupState) (past m : List Entry) → IsRun setup past → IsEarlier past m → (n : ℕ) → Longer (history_of setup n m) (history_of setup n past)
+history_grows setup past m h early n =
+    let s = (state setup n m).log in
+    let t = (state setup n past).log in
+    let w = history_within setup past m h early n in
+    same_longer (history_of setup n m) (table_at setup (changes_of t.raft.log) s.acted).history (history_of setup n past) (table_at setup (changes_of t.raft.log) t.acted).history w.older (config_is setup past h n)
+    (table_longer setup (changes_of t.raft.log) t.acted s.acted w.rises)
+
+-- as long as it acts on no more, they stay
+pub history_stays : (setup : SetupState) (past m : List Entry) → IsRun setup past → IsEarlier past m → (n : ℕ) → (state setup n m).log.acted ≡ (state setup n past).log.acted
+    → history_of setup n m ≡ history_of setup n past
+history_stays setup past m h early n same =
+    let w = history_within setup past m h early n in
+    w.older ∙ ap (λ k. (table_at setup (changes_of (state setup n past).log.raft.log) k).history) same ∙ sym (config_is setup past h n)
 
 pub all_fit : (setup : SetupState) (past : List Entry) → IsRun setup past → (n i : ℕ) → fits setup.hashes (change_at (changes_of (state setup n past).log.raft.log) i) ≡ true
 all_fit setup past h n i = each (state setup n past).log.raft.log i ((run_facts setup past h).logs n)

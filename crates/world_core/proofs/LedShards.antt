@@ -131,7 +131,7 @@ starts_at_0 hashes place (s ∷ ss) older id b all e =
       | false ↦ λ g. all i c g
     ] f) e
 
-leads_in : (xs : List Execution) (x : Execution) → IsIn xs x → IsIn (leads_of xs) (lead_of x)
+pub leads_in : (xs : List Execution) (x : Execution) → IsIn xs x → IsIn (leads_of xs) (lead_of x)
 leads_in [] x i = i
 leads_in (y ∷ ys) x i = elim i [ inl e ↦ inl (ap lead_of e) | inr j ↦ inr (leads_in ys x j) ]
 

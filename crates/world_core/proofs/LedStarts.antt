@@ -198,6 +198,31 @@ all_there me t (a ∷ rest) s x i = all_there me t rest (start_one me t.contract
 pub leads_there : (me : NodeId) (t : Table) (rest : List Asking) (s : Starting) (g : ℕ) (key : List ℕ) → HasLead g key (leads_of s.executions) → HasLead g key (leads_of (start_each me t rest s).executions)
 leads_there me t rest s g key l = record { x = l.x; is_in = all_there me t rest s l.x l.is_in; has = l.has }
 
+-- what is written was so before, or one that asked for it was due
+pub record IsStarted (me : NodeId) (t : Table) (rest : List Asking) (l : Lead) : Type 0 where
+  pub asking : Asking
+  pub is_in : IsIn rest asking
+  pub initial : ℕ
+  pub due_is : due t asking ≡ Some initial
+  pub is : lead_of (started asking me initial) ≡ l
+
+one_in : (me : NodeId) (t : Table) (a : Asking) (rest : List Asking) (s : Starting) (l : Lead) (o : Option ℕ) → due t a ≡ o → IsIn (leads_of (start_one me t.contracts a o s).executions) l
+    → IsIn (leads_of s.executions) l ⊎ IsStarted me t (a ∷ rest) l
+one_in me t a rest s l None e i = inl i
+one_in me t a rest s l (Some initial) e i =
+    elim (placed_in t.contracts (started a me initial) s.executions l i) [
+      | inl is ↦ inr (record { asking = a; is_in = inl refl; initial = initial; due_is = e; is = is })
+      | inr j ↦ inl j
+    ]
+
+pub start_in : (me : NodeId) (t : Table) (rest : List Asking) (s : Starting) (l : Lead) → IsIn (leads_of (start_each me t rest s).executions) l → IsIn (leads_of s.executions) l ⊎ IsStarted me t rest l
+start_in me t [] s l i = inl i
+start_in me t (a ∷ rest) s l i =
+    elim (start_in me t rest (start_one me t.contracts a (due t a) s) l i) [
+      | inl j ↦ one_in me t a rest s l (due t a) refl j
+      | inr r ↦ inr (record { asking = r.asking; is_in = inr r.is_in; initial = r.initial; due_is = r.due_is; is = r.is })
+    ]
+
 -- ---- all that ask
 
 pub all_started : (setup : SetupState) (n life : ℕ) (H : Branches) → IsHistory H → (g : ℕ) (key : List ℕ) → g < setup.hashes → (ps : List Point) (me : NodeId) (t : Table) (version : Version) (branch : Id)

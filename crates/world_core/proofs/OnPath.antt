@@ -115,14 +115,14 @@ one_first setup ok newer older first last b c h k is there i j =
 
 -- ---- the current branch of a pair
 
-record Current (bs : Branches) (h : ℕ) (k : List ℕ) (id : Id) : Type 0 where
-  newer : Branches
-  older : Branches
-  birth : BranchBirth
-  is : bs ≡ newer ++ (id, birth) ∷ older
-  inside : in_region birth.region h k ≡ true
+pub record Current (bs : Branches) (h : ℕ) (k : List ℕ) (id : Id) : Type 0 where
+  pub newer : Branches
+  pub older : Branches
+  pub birth : BranchBirth
+  pub is : bs ≡ newer ++ (id, birth) ∷ older
+  pub inside : in_region birth.region h k ≡ true
 
-current : (bs : Branches) (h : ℕ) (k : List ℕ) (id : Id) → branch_at bs h k ≡ Some id → Current bs h k id
+pub current : (bs : Branches) (h : ℕ) (k : List ℕ) (id : Id) → branch_at bs h k ≡ Some id → Current bs h k id
 current [] h k id e = absurd (cc e)
 current (b ∷ bs) h k id e =
     elim (in_region b.1.region h k) as (λ v. in_region b.1.region h k ≡ v → cond v (Some b.0) (branch_at bs h k) ≡ Some id → Current (b ∷ bs) h k id) [
@@ -132,7 +132,7 @@ current (b ∷ bs) h k id e =
           record { newer = b ∷ r.newer; older = r.older; birth = r.birth; is = ap (λ (l : Branches). b ∷ l) r.is; inside = r.inside }
     ] refl e
 
-birth_there : (newer older : Branches) (id : Id) (birth : BranchBirth) → IsHistory (newer ++ (id, birth) ∷ older) → birth_of (newer ++ (id, birth) ∷ older) id ≡ Some birth
+pub birth_there : (newer older : Branches) (id : Id) (birth : BranchBirth) → IsHistory (newer ++ (id, birth) ∷ older) → birth_of (newer ++ (id, birth) ∷ older) id ≡ Some birth
 birth_there newer older id birth hist =
     birth_longer newer ((id, birth) ∷ older) id (newer_apart newer ((id, birth) ∷ older) id hist (knows_one [] older (id, birth)))
     ∙ ap (λ v. cond v (Some birth) (birth_of older id)) (id_self id)

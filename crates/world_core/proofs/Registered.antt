@@ -176,12 +176,14 @@ pub record IsRegistered (setup : SetupState) (changes : List Change) (w : ℕ) (
   pub maker : NodeId
   pub based_on : Pieced Id
   pub change_is : change_at changes index ≡ RegisterBranch b.0 b.1.region tenure maker based_on b.1.origin
+  pub tenure_is : b.1.tenure ≡ tenure
   pub older_is : older ≡ (table_at setup changes index).history
   pub based : (h : ℕ) (k : List ℕ) → h < setup.hashes → in_region b.1.region h k ≡ true → value_at based_on.pieces h k ≡ branch_at older h k
   pub contract : Contract
   pub current : IsIn (table_at setup changes index).contracts contract
   pub region_is : contract.region ≡ b.1.region
   pub held : is_held_by contract.primary maker ≡ true
+  pub of_tenure : contract.tenure ≡ tenure
 
 -- one more change
 later : (setup : SetupState) (changes : List Change) (w : ℕ) (b : Id × BranchBirth) (older : Branches) → IsRegistered setup changes w b older → IsRegistered setup changes (suc w) b older
@@ -192,12 +194,14 @@ later setup changes w b older r = record {
   maker = r.maker;
   based_on = r.based_on;
   change_is = r.change_is;
+  tenure_is = r.tenure_is;
   older_is = r.older_is;
   based = r.based;
   contract = r.contract;
   current = r.current;
   region_is = r.region_is;
   held = r.held;
+  of_tenure = r.of_tenure;
 }
 
 -- what a change that registers a branch was asked
@@ -216,12 +220,14 @@ made setup changes w hashes g =
       maker = g.maker;
       based_on = g.based_on;
       change_is = g.change_is;
+      tenure_is = refl;
       older_is = refl;
       based = λ h k l i. known.1 h k (subst (λ n. h < n) (sym hashes) l) ∙ ap (λ v. cond v (branch_at t.history h k) None) i;
       contract = found.0;
       current = is_member found.0 t.contracts found.1;
       region_is = region_same found.0.region g.region both.0;
       held = (and_parts (found.0.tenure == g.tenure) (is_held_by found.0.primary g.maker) both.1).1;
+      of_tenure = eqb-true found.0.tenure g.tenure (and_parts (found.0.tenure == g.tenure) (is_held_by found.0.primary g.maker) both.1).0;
     }
 
 -- each branch of a table that follows from changes which fit

@@ -1,8 +1,8 @@
 -- What a table begins with: each pair lies in one shard at most, and a primary stands at its branch.
-use Rattle.std.proofs.Common.{◌≡◌, ◌==◌, ℕ, ◌+◌, ◌<◌, ◌≤◌, Bool, true, false, cond, ◌&&◌, ◌||◌, not, nat_lt, List, [], ◌∷◌, ◌++◌, Option, Some, is_some, inl, inr, refl, sym, ap, ap₂, ◌∙◌, arith}
+use Rattle.std.proofs.Common.{◌≡◌, ◌==◌, ℕ, ◌+◌, ◌<◌, ◌≤◌, Bool, true, false, cond, ◌&&◌, not, nat_lt, List, [], ◌∷◌, ◌++◌, Option, Some, is_some, inl, inr, refl, sym, ap, ◌∙◌, arith}
 use Rattle.std.proofs.lemmas.Bool.{eqb-true, cases_lt, cond_both, cond-true}
 use Rattle.std.proofs.lemmas.Bool.Decides.{nat_tests}
-use Rattle.std.specs.List.{list_any, AllByRecursion}
+use Rattle.std.specs.List.{AllByRecursion}
 use Rattle.region_map.specs.declared.id.Id.{Id}
 use Rattle.region_map.specs.declared.id.NodeId.{NodeId}
 use Rattle.region_map.specs.declared.region.Region.{Region}
@@ -18,7 +18,6 @@ use Rattle.contract_types.specs.Tilings.{holders}
 use Rattle.contract_types.specs.Configs.{shard_region}
 use Rattle.contract_types.specs.Setup.{SetupState, IsSetup}
 use Rattle.contract_types.specs.Tables.{setup_id, first_id, first_birth, first_contract, first_branches, branch_at}
-use Rattle.store_api.specs.Rows.{has_key}
 use Rattle.store_api.specs.Versions.{point, replaced_map, zero_map}
 use Rattle.store_api.proofs.VersionMaps.{replaced_map_hashes, replaced_map_at, zero_map_hashes, zero_map_at}
 use Rattle.exec_types.specs.Sessions.{setup_session_name}
@@ -162,19 +161,6 @@ one_shard setup ok h k =
     elim (cases_lt 1 (holders shard_region setup.shards h k)) [
       | inl two ↦ absurd (ok.config.apart (h, k, two))
       | inr few ↦ few
-    ]
-
--- a node serves a key where it is the primary of the key's shard
-pub serving : (n place : ℕ) (ss : List ShardConfig) (hashes : ℕ) (key : List ℕ)
-    → list_any (is_for hashes key) (executions_from n place ss) ≡ list_any (λ s. is_led n s && has_key s.region hashes key) ss
-serving n place [] hashes key = refl
-serving n place (s ∷ ss) hashes key =
-    let x : Execution = setup_execution (first_contract place s) s.primary place in
-    let rest : List Execution = executions_from n (place + 1) ss in
-    let same = serving n (place + 1) ss hashes key in
-    elim (is_led n s) as (λ b. list_any (is_for hashes key) (cond b (x ∷ rest) rest) ≡ ((b && has_key s.region hashes key) || list_any (λ s. is_led n s && has_key s.region hashes key) ss)) [
-      | true ↦ ap₂ (λ a b. a || b) (led_region place s (hash_of key hashes) key) same
-      | false ↦ same
     ]
 
 -- ---- with which branch and timestamp a node begins

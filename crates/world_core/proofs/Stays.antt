@@ -67,7 +67,7 @@ points_by past m q early i = subst (λ (l : List Entry). IsIn (points l) q) (sym
 
 -- ---- histories
 
-rest_history : (ns bs : Branches) → IsHistory (ns ++ bs) → IsHistory bs
+pub rest_history : (ns bs : Branches) → IsHistory (ns ++ bs) → IsHistory bs
 rest_history [] bs h = h
 rest_history (n ∷ ns) bs h = rest_history ns bs h.3
 
@@ -210,12 +210,12 @@ module _ (setup : SetupState) (ok : IsSetup setup) (past : List Entry) (run : Is
 
 -- ---- where a member stands
 
-record Split (ps : List Point) (q : Point) : Type 0 where
-  first : List Point
-  later : List Point
-  is : ps ≡ first ++ q ∷ later
+pub record Split (ps : List Point) (q : Point) : Type 0 where
+  pub first : List Point
+  pub later : List Point
+  pub is : ps ≡ first ++ q ∷ later
 
-split_at : (ps : List Point) (q : Point) → IsIn ps q → Split ps q
+pub split_at : (ps : List Point) (q : Point) → IsIn ps q → Split ps q
 split_at [] q i = absurd i
 split_at (p ∷ ps) q i =
     elim i [
@@ -252,6 +252,9 @@ module _ (setup : SetupState) (ok : IsSetup setup) (past : List Entry) (run : Is
       tells setup past run of_key.shard.primary.0
       (ltb-true of_key.shard.primary.0 setup.nodes (member_below setup.nodes of_key.shard.replicas of_key.shard.primary.0 roles.replicas roles.primary))
 
+  pub told_history : IsHistory (told_table setup past).history
+  told_history = subst IsHistory (sym teller.told) (is_history setup past run teller.n)
+
   teller_has_all : HasAll setup past of_key.shard.primary.0 (history_of setup teller.n past)
   teller_has_all m early =
       let p : ℕ = of_key.shard.primary.0 in
@@ -279,11 +282,9 @@ module _ (setup : SetupState) (ok : IsSetup setup) (past : List Entry) (run : Is
   pub taken_stays_in_all : (q : Point) → IsIn (points past) q → StaysInAll setup.hashes (told_table setup past).history q
   taken_stays_in_all q i newer older b is known has =
       let g : ℕ = hash_of q.key setup.hashes in
-      let t = teller setup ok past run q.key in
       let split : (told_table setup past).history ≡ (newer ++ b ∷ []) ++ older = is ∙ sym (append_assoc newer (b ∷ []) older) in
-      let hist : IsHistory (told_table setup past).history = subst IsHistory (sym t.told) (is_history setup past run t.n) in
       ap (λ (bs : Branches). is_on bs g q.key (origin_at b.1 g q.key) (point q.branch q.timestamp)) split
-      ∙ points_stay (newer ++ b ∷ []) older g q.key (origin_at b.1 g q.key) (point q.branch q.timestamp) (subst IsHistory split hist) (taken_stays q i newer older b is known has)
+      ∙ points_stay (newer ++ b ∷ []) older g q.key (origin_at b.1 g q.key) (point q.branch q.timestamp) (subst IsHistory split (told_history setup ok past run q.key)) (taken_stays q i newer older b is known has)
 
   pub taken_stays_at : (q : Point) → IsIn (points past) q → (n : ℕ) → n < setup.nodes → StaysIn setup.hashes (history_of setup n past) q
   taken_stays_at q i n below newer older b is known has =

@@ -5,11 +5,15 @@ use Rattle.region_map.specs.Keys.{hash_of}
 use Rattle.branch_history.specs.declared.history.BranchBirth.{BranchBirth}
 use Rattle.branch_history.specs.Paths.{Branches, origin_at, is_on}
 use Rattle.branch_history.specs.Histories.{knows}
+use Rattle.contract_types.specs.Setup.{SetupState}
 use Rattle.register_laws.specs.declared.operation.Reply.{Reply}
 use Rattle.exec_types.specs.declared.outcome.Outcome.TheVariants.{Done}
 use Rattle.store_api.specs.Rows.{has_key}
 use Rattle.store_api.specs.Versions.{point}
+use Rattle.primary_exec.specs.declared.asking.Asking.{Asking}
+use Rattle.primary_exec.specs.Execution.{Execution}
 use Rattle.node_core.specs.declared.journal.Entry.{Entry}
+use Rattle.world_core.specs.Run.{state}
 use Rattle.world_core.specs.Story.{Point, IsIn, points, answer}
 
 -- an operation took the point, and was answered that it is done there
@@ -40,3 +44,10 @@ StaysInAll hashes history q =
 abbrev pub is_before_on : ℕ → Branches → Point → Point → Bool
 is_before_on hashes history p q =
     is_on history (hash_of q.key hashes) q.key (point q.branch q.timestamp) (point p.branch p.timestamp)
+
+-- an entry starts a branch: its node asked for it before, and writes it from then on
+pub record Starts (setup : SetupState) (past : List Entry) (e : Entry) (a : Asking) : Type 0 where
+  pub asked : IsIn (state setup e.node.0 past).asking a
+  pub execution : Execution
+  pub writes : IsIn (state setup e.node.0 (e ∷ past)).executions execution
+  pub branch_is : execution.branch ≡ a.branch

@@ -8,6 +8,7 @@ pub mod Quiet
 pub mod Rising
 pub mod Run
 pub mod Served
+pub mod Serving
 pub mod Stored
 pub mod Story
 pub mod Waiting

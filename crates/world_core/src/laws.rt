@@ -1,19 +1,16 @@
-//! What holds of runs. "Such a run" is one of requests, deliveries and operations that are given up alone: in it no node
-//! ticks, goes down or comes up.
-ghost use Rattle.std.specs.Prelude.{◌≡◌, ◌≤◌, ◌<◌, ◌&&◌, ℕ, List, Some, IsTrue, true, false};
-ghost use Rattle.std.specs.List.{list_any};
+//! What holds of every run: nodes tick, go down and come up, and messages come in any order, again and again, or never.
+ghost use Rattle.std.specs.Prelude.{◌≡◌, ◌≤◌, ◌<◌, ℕ, List, Some, IsTrue, true, false};
 ghost use Rattle.contract_types.specs.Setup.{SetupState, IsSetup};
 ghost use Rattle.register_laws.specs.declared.operation.OpId.{OpId};
 ghost use Rattle.contract_types.specs.declared.counts.Counts.{Counts};
 ghost use Rattle.exec_types.specs.declared.outcome.Outcome.TheVariants.{NotServing, NoMajority};
-ghost use Rattle.store_api.specs.Rows.{has_key};
 ghost use Rattle.node_core.specs.declared.journal.Entry.{Entry};
-ghost use Rattle.node_core.specs.Step.{is_led, serves};
+ghost use Rattle.node_core.specs.Step.{serves};
 ghost use Rattle.world_core.specs.declared.envelope.Envelope.{Envelope};
-ghost use Rattle.world_core.specs.Quiet.{are_quiet};
 ghost use Rattle.world_core.specs.Run.{IsRun, is_requested, message_at, state};
 ghost use Rattle.world_core.specs.Story.{IsRegisterStory, story, answer, is_answered};
 ghost use Rattle.world_core.specs.Served.{IsNotServed};
+ghost use Rattle.world_core.specs.Serving.{is_served_by};
 ghost use Rattle.world_core.specs.GivenUp.{IsGivenUp};
 ghost use Rattle.world_core.specs.Answers.{answers_to};
 ghost use Rattle.write_dispatch.specs.Dispatch.{are_majorities};
@@ -54,16 +51,17 @@ pub fn single_answers_of_runs()
         → (op : OpId) → answers_to past op ≤ 1 }
 {}
 
-/// In every run of requests, deliveries and operations that are given up alone, a node serves exactly the keys of the shards that have it as their primary.
+/// In every run, a node serves a key exactly where it is up, a contract of its table has the key and names it as the
+/// primary with no hand-over, and it made the key's current branch in its present life and in the contract's tenure.
 pub fn serving_of_runs()
-    ensures { (setup : SetupState) → IsSetup setup → (past : List Entry) → IsRun setup past → are_quiet past ≡ true
-        → (n : ℕ) (key : List ℕ) → serves (state setup n past) key ≡ list_any (λ s. is_led n s && has_key s.region setup.hashes key) setup.shards }
+    ensures { (setup : SetupState) → IsSetup setup → (past : List Entry) → IsRun setup past
+        → (n : ℕ) (key : List ℕ) → serves (state setup n past) key ≡ is_served_by (state setup n past) key }
 {}
 
-/// In every such run, each message goes from a node of the table to a node of the table.
+/// In every run, each message goes from a node of the table to a node of the table.
 pub fn messages_of_runs()
-    ensures from { (setup : SetupState) → IsSetup setup → (past : List Entry) → IsRun setup past → are_quiet past ≡ true
+    ensures from { (setup : SetupState) → IsSetup setup → (past : List Entry) → IsRun setup past
         → (number : ℕ) (message : Envelope) → message_at past number ≡ Some message → message.from.0 < setup.nodes }
-    ensures to { (setup : SetupState) → IsSetup setup → (past : List Entry) → IsRun setup past → are_quiet past ≡ true
+    ensures to { (setup : SetupState) → IsSetup setup → (past : List Entry) → IsRun setup past
         → (number : ℕ) (message : Envelope) → message_at past number ≡ Some message → message.to.0 < setup.nodes }
 {}

@@ -2,7 +2,7 @@ use Rattle.world_core.proofs.Table.{message_within}
 use Rattle.world_core.proofs.laws.messages_of_runs.Goals as goal
 
 pub returns-clause-from : goal.returns-clause-from
-returns-clause-from c = λ setup valid past h quiet number m e. (message_within setup valid past h quiet number m e).0
+returns-clause-from c = λ setup valid past h number m e. (message_within setup valid past h number m e).0
 
 pub returns-clause-to : goal.returns-clause-to
-returns-clause-to c = λ setup valid past h quiet number m e. (message_within setup valid past h quiet number m e).1
+returns-clause-to c = λ setup valid past h number m e. (message_within setup valid past h number m e).1

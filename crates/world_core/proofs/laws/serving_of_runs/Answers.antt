@@ -1,5 +1,5 @@
-use Rattle.world_core.proofs.Refusals.{serves_led}
+use Rattle.world_core.proofs.ServedLaws.{serves_exactly}
 use Rattle.world_core.proofs.laws.serving_of_runs.Goals as goal
 
 pub returns : goal.returns
-returns c = serves_led
+returns c = serves_exactly
