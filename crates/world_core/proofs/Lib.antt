@@ -7,8 +7,10 @@ pub mod AskedRunsSteps
 pub mod AskedRunsTables
 pub mod Begun
 pub mod BegunPaths
+pub mod Branches
 pub mod Facts
 pub mod GivingUp
+pub mod Keeping
 pub mod Keyed
 pub mod KeyedFacts
 pub mod KeyedLaws
@@ -31,6 +33,7 @@ pub mod LedRows
 pub mod LedRuns
 pub mod LedShards
 pub mod LedStarts
+pub mod Lists
 pub mod LogWorldLaws
 pub mod LogWorldMoves
 pub mod LogWorldOuts
@@ -67,5 +70,7 @@ pub mod StoredRuns
 pub mod StoredSetups
 pub mod StoredSteps
 pub mod Table
+pub mod Telling
 pub mod Told
+pub mod Viewing
 pub mod Waits

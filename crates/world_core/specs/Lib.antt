@@ -1,5 +1,6 @@
 pub mod Answers
 pub mod Committed
+pub mod Done
 pub mod GivenUp
 pub mod Latest
 pub mod Pairs
@@ -9,5 +10,6 @@ pub mod Run
 pub mod Served
 pub mod Stored
 pub mod Story
+pub mod Telling
 pub mod Waiting
 pub mod World

@@ -1,8 +1,8 @@
 use Rattle.std.proofs.Common.{◌<◌, subst, ◌∙◌}
 use Rattle.contract_types.specs.Configs.{ConfigState}
 use Rattle.contract_types.proofs.Begins.{hashes_some}
-use Rattle.report_text.proofs.Branches.{branch-current}
-use Rattle.report_text.proofs.stories.branch_of.Goals as goal
+use Rattle.world_core.proofs.Branches.{branch-current}
+use Rattle.world_core.proofs.paths.branch_of.Goals as goal
 
 pub returns : goal.returns
 returns c =

@@ -2,8 +2,8 @@ use Rattle.std.proofs.Common.{ap, ◌∙◌}
 use Rattle.region_map.specs.Keys.{hash_of}
 use Rattle.branch_history.specs.Paths.{Branches, is_on, whole}
 use Rattle.branch_history.specs.Histories.{hashes_of}
-use Rattle.report_text.proofs.Branches.{on-current}
-use Rattle.report_text.proofs.stories.is_on_whole.Goals as goal
+use Rattle.world_core.proofs.Branches.{on-current}
+use Rattle.world_core.proofs.paths.is_on_whole.Goals as goal
 
 pub returns : goal.returns
 returns c =

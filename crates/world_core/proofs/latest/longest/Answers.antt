@@ -1,7 +1,7 @@
 use Rattle.std.proofs.Common.{map, reverse, ap, ◌∙◌}
 use Rattle.world_core.specs.Latest.{longer}
-use Rattle.report_text.proofs.Viewing.{longest-more}
-use Rattle.report_text.proofs.latest.longest.Goals as goal
+use Rattle.world_core.proofs.Viewing.{longest-more}
+use Rattle.world_core.proofs.latest.longest.Goals as goal
 
 pub loop-node-preserved : goal.loop-node-preserved
 loop-node-preserved c =

@@ -82,7 +82,7 @@ fn longer<'a>(
 }
 
 /// The longest list of changes that a node told to have acted on, of the least such node.
-pub(crate) fn longest<'a>(
+pub fn longest<'a>(
     alloc: Global,
     setup: &Setup,
     entries: &'a [Entry],
@@ -116,7 +116,7 @@ fn take_change(
 }
 
 /// The table that follows from changes, of which the first has index 1.
-pub(crate) fn told_table(
+pub fn told_table(
     alloc: Global,
     setup: &Setup,
     viewed: &[&(Change, Applied)],

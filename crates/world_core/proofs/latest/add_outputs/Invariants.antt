@@ -1,6 +1,6 @@
 use Rattle.std.proofs.Common.{◌≡◌, ◌++◌, map, drop}
 use Rattle.world_core.specs.Committed.{viewed_in}
-use Rattle.report_text.proofs.latest.add_outputs.Given as goal
+use Rattle.world_core.proofs.latest.add_outputs.Given as goal
 
 -- with the changes of the outputs that are left, it comes to those of all
 abbrev pub invariant-loop-output : goal.invariant-loop-output

@@ -1,7 +1,7 @@
 use Rattle.std.proofs.Common.{◌≡◌, map, reverse}
 use Rattle.contract_types.specs.Setup.{nodes_below}
 use Rattle.world_core.specs.Latest.{longest_of}
-use Rattle.report_text.proofs.latest.longest.Given as goal
+use Rattle.world_core.proofs.latest.longest.Given as goal
 
 -- the longest list of the nodes so far
 abbrev pub invariant-loop-node : goal.invariant-loop-node

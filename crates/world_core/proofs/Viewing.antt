@@ -7,7 +7,6 @@ use Rattle.contract_types.specs.declared.change.Change.TheVariants.{Noop, SetCon
 use Rattle.contract_types.specs.Setup.{nodes_below}
 use Rattle.contract_types.specs.Tables.{Table}
 use Rattle.table_apply.specs.declared.applied.Applied.{Applied}
-use Rattle.table_apply.specs.declared.applied.Applied.TheVariants.{Taken, Skipped}
 use Rattle.table_apply.specs.Effects.{applied_at, FitsTable}
 use Rattle.table_log.specs.Fitting.{fits}
 use Rattle.exec_types.specs.declared.output.Output.{Output}
@@ -15,7 +14,6 @@ use Rattle.exec_types.specs.declared.output.Output.TheVariants.{Message, Dispatc
 use Rattle.node_core.specs.declared.journal.Entry.{Entry}
 use Rattle.world_core.specs.Committed.{viewed_in, viewed_by}
 use Rattle.world_core.specs.Latest.{longer, longest_of, told_step, told_from}
-use Rattle.report_text.specs.Report.{with_skipped, skipped_lines}
 
 -- ---- the changes that a node viewed
 
@@ -72,17 +70,3 @@ hashes_after t index (RegisterBranch branch region tenure maker based_on origin)
 -- and the table keeps its hashes
 pub hashes-stay : (hashes : ℕ) (t : Table) (index : ℕ) (change : Change) → t.config.hashes ≡ hashes → fits hashes change ≡ true → (applied_at t index change).table.config.hashes ≡ hashes
 hashes-stay hashes t index change same e = hashes_after t index change (fits-table hashes t change same e) ∙ same
-
--- ---- lines of skipped changes
-
-with_skipped-nil : (index : ℕ) (applied : Applied) (rest : List (List ℕ)) → with_skipped index applied rest ≡ with_skipped index applied [] ++ rest
-with_skipped-nil index Taken rest = refl
-with_skipped-nil index (Skipped condition) rest = refl
-
--- one change more
-pub skip-more : (index : ℕ) (r : Change × Applied) (rs : List (Change × Applied)) (a b : List (List ℕ)) → b ≡ a ++ with_skipped index r.1 []
-    → b ++ skipped_lines (index + 1) rs ≡ a ++ skipped_lines index (r ∷ rs)
-skip-more index r rs a b added =
-    ap (λ front. front ++ skipped_lines (index + 1) rs) added
-    ∙ append_assoc a (with_skipped index r.1 []) (skipped_lines (index + 1) rs)
-    ∙ ap (λ back. a ++ back) (sym (with_skipped-nil index r.1 (skipped_lines (index + 1) rs)))
