@@ -1,9 +1,6 @@
 -- In every run each key's story is a register story: it is the list of all operations on the key.
-use Rattle.std.proofs.Common.{◌≡◌, ℕ, List, [], ◌++◌, map, filter, None, refl, sym, ap, subst}
+use Rattle.std.proofs.Common.{◌≡◌, ℕ, List, map, filter, None, sym, ap, subst}
 use Rattle.contract_types.specs.Setup.{SetupState, IsSetup}
-use Rattle.register_laws.specs.declared.operation.OpId.{OpId}
-use Rattle.register_laws.specs.declared.operation.Op.{Op}
-use Rattle.register_laws.specs.declared.operation.Told.{Told}
 use Rattle.register_laws.specs.Lists.{told_from}
 use Rattle.node_core.specs.declared.journal.Entry.{Entry}
 use Rattle.world_core.specs.Run.{IsRun}

@@ -1,5 +1,5 @@
 -- Laws of marks that are made one after another.
-use Rattle.std.proofs.Common.{◌≡◌, ◌==◌, ℕ, Bool, true, false, cond, List, [], ◌∷◌, Option, Some, None, refl, ap, sym, ◌∙◌}
+use Rattle.std.proofs.Common.{◌≡◌, Bool, true, false, cond, List, [], ◌∷◌, Option, Some, None, refl, ap, sym, ◌∙◌}
 use Rattle.register_laws.specs.declared.operation.OpId.{OpId}
 use Rattle.register_laws.specs.Lists.{same_op}
 use Rattle.exec_types.specs.declared.outcome.Outcome.{Outcome}
@@ -7,7 +7,7 @@ use Rattle.exec_types.specs.declared.output.Output.{Output}
 use Rattle.exec_types.specs.declared.output.Output.TheVariants.{Message, Dispatched, Viewed, Answer}
 use Rattle.node_core.specs.declared.journal.Entry.{Entry}
 use Rattle.world_core.specs.Story.{answer, answer_in, or_else, is_done_outcome}
-use Rattle.world_core.specs.Done.{Marks, mark_of, or_mark, op_of, MarksAnswers, is_marked, is_done_by}
+use Rattle.world_core.specs.Done.{Marks, mark_of, or_mark, MarksAnswers, is_marked, is_done_by}
 
 pub mark_of-or_else : (a b : Option Outcome) → mark_of (or_else a b) ≡ or_mark (mark_of a) (mark_of b)
 mark_of-or_else None b = refl

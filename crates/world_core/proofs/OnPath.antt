@@ -1,5 +1,5 @@
 -- In every run all points of a key lie on the path of the key's branch, in the table that the journal tells.
-use Rattle.std.proofs.Common.{◌≡◌, ◌⊎◌, ℕ, zero, suc, ◌+◌, ◌≤◌, ◌<◌, Bool, true, false, cond, ◌&&◌, nat_le, List, [], ◌∷◌, ◌++◌, filter, Some, inl, inr, refl, sym, ap, ◌∙◌, subst, arith, sum}
+use Rattle.std.proofs.Common.{◌≡◌, ℕ, zero, suc, ◌+◌, ◌≤◌, ◌<◌, Bool, true, false, cond, ◌&&◌, nat_le, List, [], ◌∷◌, ◌++◌, Some, inl, inr, refl, sym, ap, ◌∙◌, subst, arith, sum}
 use Rattle.std.proofs.Math.Nat.{mod-lt}
 use Rattle.std.proofs.lemmas.Bool.{cases_Bool, cases_eq, both_ways, le-leb, ltb-true}
 use Rattle.std.specs.List.{AllByRecursion}
@@ -24,7 +24,7 @@ use Rattle.contract_types.specs.Tilings.{holders}
 use Rattle.contract_types.specs.Setup.{SetupState, IsSetup}
 use Rattle.contract_types.specs.Tables.{Table, branch_at, first_id, first_birth, first_branches, setup as first_table}
 use Rattle.table_apply.specs.Conditions.{branch_region}
-use Rattle.table_apply.specs.Runs.{change_at, table_at}
+use Rattle.table_apply.specs.Runs.{change_at}
 use Rattle.table_log.specs.Fitting.{changes_of}
 use Rattle.store_api.specs.Versions.{point}
 use Rattle.node_core.specs.declared.journal.Entry.{Entry}

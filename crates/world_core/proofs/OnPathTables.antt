@@ -1,9 +1,8 @@
 -- The table that a journal tells is that of a node that acted on most of the log.
-use Rattle.std.proofs.Common.{◌≡◌, ◌⊎◌, ℕ, zero, suc, ◌+◌, ◌≤◌, ◌<◌, true, cond, nat_lt, List, [], ◌∷◌, ◌++◌, length, take, inl, inr, refl, sym, ap, ap₂, ◌∙◌, subst, arith, length-append, length-take}
+use Rattle.std.proofs.Common.{◌≡◌, ◌⊎◌, ℕ, zero, suc, ◌+◌, ◌≤◌, ◌<◌, true, cond, nat_lt, List, [], ◌∷◌, ◌++◌, length, take, inl, inr, refl, sym, ap, ap₂, ◌∙◌, subst, arith, length-take}
 use Rattle.std.proofs.lemmas.Bool.{cond_both, cases_eq, ltb-true, ltb-false}
 use Rattle.std.proofs.lemmas.List.{take-take, take-append-le}
 use Rattle.raft_vote.specs.declared.log.LogEntry.{LogEntry}
-use Rattle.raft_laws.specs.Laws.{IsFrontOf}
 use Rattle.raft_laws.specs.World.{World}
 use Rattle.branch_history.specs.Paths.{Branches}
 use Rattle.contract_types.specs.declared.change.Change.{Change}
@@ -20,7 +19,7 @@ use Rattle.table_log.proofs.Acting.{results_count}
 use Rattle.table_log.proofs.Prefixes.{same_entries}
 use Rattle.node_core.specs.declared.journal.Entry.{Entry}
 use Rattle.world_core.specs.Run.{state, IsRun}
-use Rattle.world_core.specs.Committed.{committed, IsEarlier, viewed_by}
+use Rattle.world_core.specs.Committed.{IsEarlier, viewed_by}
 use Rattle.world_core.specs.Latest.{longer, longest_of, told_step, told_from, told_table}
 use Rattle.world_core.specs.Story.{IsIn}
 use Rattle.world_core.proofs.Asked.{history_of}

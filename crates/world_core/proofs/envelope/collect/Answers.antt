@@ -3,7 +3,6 @@ use Rattle.std.proofs.Common.{◌≡◌, ◌+◌, ◌∷◌, drop, ◌<◌, ◌|
 use Rattle.std.proofs.lemmas.List.{drop_more}
 use Rattle.exec_types.specs.declared.output.Output.{Output}
 use Rattle.world_core.specs.Run.{sent_by}
-use Rattle.region_map.specs.declared.id.NodeId.{NodeId}
 use Rattle.world_core.specs.Pairs.{pair_has, comes_between}
 use Rattle.world_core.proofs.Waits.{comes_more_to, grows}
 use Rattle.world_core.proofs.envelope.collect.Goals as goal

@@ -1,5 +1,4 @@
 -- The least of those to the receivers so far.
-use Rattle.std.proofs.Common.{◌≡◌}
 use Rattle.world_core.specs.Pairs.{IsLeast, flows_from}
 use Rattle.world_core.proofs.flowing.first_from.Given as goal
 

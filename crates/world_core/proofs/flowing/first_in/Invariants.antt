@@ -1,5 +1,4 @@
 -- The least of those from the senders so far.
-use Rattle.std.proofs.Common.{◌≡◌}
 use Rattle.world_core.specs.Pairs.{IsLeast, flows_in}
 use Rattle.world_core.proofs.flowing.first_in.Given as goal
 

@@ -1,5 +1,4 @@
-use Rattle.std.proofs.Common.{map, reverse, ap, ◌∙◌}
-use Rattle.world_core.specs.Latest.{longer}
+use Rattle.std.proofs.Common.{map, reverse, ◌∙◌}
 use Rattle.world_core.proofs.Viewing.{longest-more}
 use Rattle.world_core.proofs.latest.longest.Goals as goal
 

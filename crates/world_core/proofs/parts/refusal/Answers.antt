@@ -1,8 +1,7 @@
 -- The refusals in their order: the node that an event is for is stored as the journal gives it.
-use Rattle.std.proofs.Common.{◌≡◌, true, false, cond, nat_lt, Option, Some, None, sym, ap, ◌∙◌}
+use Rattle.std.proofs.Common.{◌≡◌, true, false, cond, nat_lt, Some, None, sym, ap, ◌∙◌}
 use Rattle.std.proofs.lemmas.Bool.{and_parts}
-use Rattle.world_core.specs.declared.push_refused.PushRefused.{PushRefused}
-use Rattle.world_core.specs.declared.push_refused.PushRefused.TheVariants.{Up, Down, OpKnown}
+use Rattle.world_core.specs.declared.push_refused.PushRefused.TheVariants.{Up, Down}
 use Rattle.world_core.specs.Run.{names_node, suits}
 use Rattle.world_core.specs.World.{names_nodes, message_refusal, entries_refusal}
 use Rattle.world_core.proofs.States.{up_stored, entry_unsuited, entry_suited, known_refused, unknown, full, not_full}

@@ -1,4 +1,4 @@
-use Rattle.std.proofs.Common.{◌≡◌, List, Option, None, map, sym, ap, subst, ◌∙◌}
+use Rattle.std.proofs.Common.{◌≡◌, List, Option, None, map, ap, subst, ◌∙◌}
 use Rattle.contract_types.specs.Tables.{setup as table_of}
 use Rattle.contract_types.specs.Setup.{SetupState}
 use Rattle.register_laws.specs.Lists.{told_from}

@@ -1,5 +1,5 @@
 -- The whole set of the pair is lost.
-use Rattle.std.proofs.Common.{◌≡◌, ◌<◌, ◌++◌, List, ℕ, sym, ap, ap₂, ◌∙◌, subst}
+use Rattle.std.proofs.Common.{◌≡◌, ◌<◌, ◌++◌, List, ℕ, sym, ap, ◌∙◌, subst}
 use Rattle.world_core.specs.Waiting.{waiting_between}
 use Rattle.world_core.specs.World.{WorldState}
 use Rattle.world_core.proofs.Least.{IsInStep-between, lost_between}

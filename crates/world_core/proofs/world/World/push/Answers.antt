@@ -3,7 +3,7 @@ use Rattle.std.proofs.Common.{◌≡◌, ℕ, ◌<◌, List, ◌∷◌, Option, 
 use Rattle.std.proofs.lemmas.Bool.{ltb-true}
 use Rattle.std.proofs.lemmas.Bool.Decides.{nat_tests}
 use Rattle.region_map.specs.declared.id.NodeId.{NodeId}
-use Rattle.contract_types.specs.Setup.{SetupState, IsSetup}
+use Rattle.contract_types.specs.Setup.{SetupState}
 use Rattle.exec_types.specs.declared.input.Input.{Input}
 use Rattle.node_core.specs.declared.journal.Entry.{Entry}
 use Rattle.node_core.specs.Journal.{JournalState}
