@@ -1,7 +1,5 @@
-mod Branches
 mod Joined
 mod Keeping
-mod Lists
+mod Skipping
 mod Telling
 mod Utf8
-mod Viewing

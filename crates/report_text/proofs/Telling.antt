@@ -18,7 +18,7 @@ use Rattle.node_core.specs.declared.journal.Entry.{Entry}
 use Rattle.world_core.specs.Story.{Point, points, points_in, points_of, same_key, is_on_path, is_shown_point, call_of, story}
 use Rattle.report_text.specs.Report.{told_text, story_line}
 use Rattle.report_text.specs.Stories.{Texts, text_at, told_op, point_text, points_text, text_or_none, line_with, line_by}
-use Rattle.report_text.proofs.Branches.{on_path-hashes}
+use Rattle.world_core.proofs.Branches.{on_path-hashes}
 
 pub points_text-append : (t : Table) (past : List Entry) (key : List ℕ) (ps qs : List Point) → points_text t past key (ps ++ qs) ≡ points_text t past key ps ++ points_text t past key qs
 points_text-append t past key [] qs = refl

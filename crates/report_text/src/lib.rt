@@ -15,7 +15,6 @@ pub use texts::{limit_line, read_fault_line, script_line, usage_line};
 mod answered;
 pub mod ending;
 mod known;
-mod latest;
 pub mod print_refused;
 pub mod printed;
 pub mod printing;

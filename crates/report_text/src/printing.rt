@@ -8,7 +8,6 @@ ghost use Rattle.report_text.specs.Stories.{line_by};
 ghost use Rattle.report_text.specs.declared.print_refused.PrintRefused.TheVariants.{WriteFault, OutOfMemory};
 
 use crate::known::Known;
-use crate::latest::{longest, told_table};
 use crate::stories::{keys_of, story_line, texts_of};
 use crate::texts::{ending_line, header_line, refusal_line, skipped_line};
 use crate::{Ending, PrintRefused, Printed, Refusal};
@@ -22,6 +21,7 @@ use script_text::{ScriptItem, ScriptWord};
 use std::alloc::Global;
 use std::collections::{BTreeMap, BTreeSet};
 use table_apply::Applied;
+use world_core::{longest, told_table};
 
 fn add_op_line(
     alloc: Global,

@@ -1,10 +1,10 @@
 //! The stories of keys, gathered in one walk over a journal.
-ghost use Rattle.std.specs.Prelude.{◌≡◌, ◌++◌, ◌∷◌, [], ℕ, List, Some, None, IfOk, OnOk, if◌then◌else◌};
+ghost use Rattle.std.specs.Prelude.{◌≡◌, ◌++◌, ◌∷◌, [], ℕ, List, None, IfOk, OnOk, if◌then◌else◌};
 ghost use Rattle.std.specs.Ordering.{nat_cmp};
 ghost use Rattle.std.specs.Cmp.Lexicographic.{slice_cmp};
 ghost use Rattle.std.specs.BTreeMap.{get, is_at};
 ghost use Rattle.register_laws.specs.Lists.{is_read};
-ghost use Rattle.world_core.specs.Story.{branch_in, is_on_branch, same_key, is_shown, points, points_in, points_of};
+ghost use Rattle.world_core.specs.Story.{same_key, is_shown, points, points_in, points_of};
 ghost use Rattle.report_text.specs.Report.{keys_from, with_key};
 ghost use Rattle.report_text.specs.Stories.{text_at, told_op, points_text, line_by};
 
@@ -16,41 +16,12 @@ use contract_types::TableState;
 use exec_types::{Input, Output};
 use memory::OutOfMemory;
 use node_core::Entry;
-use region_map::{Id, Key};
+use region_map::Key;
 use register_laws::{Op, OpId};
 use script_text::{ScriptItem, ScriptWord};
 use std::alloc::Global;
 use std::collections::{BTreeMap, BTreeSet};
-
-/// The current branch of a key.
-fn branch_of(table: &TableState, key: &Key) -> Option<Id>
-    ensures { result ≡ branch_in table.now.config table.now key.now }
-{
-    let _hashes = table.config().hashes();
-    table.current().get(key).copied()
-}
-
-/// Whether a version lies on the path of the whole of a key's current branch.
-fn is_on_whole(table: &TableState, key: &Key, branch: Id, version: &Version) -> bool
-    requires { branch_in table.now.config table.now key.now ≡ Some branch }
-    ensures { result ≡ is_on_branch table.now.config table.now key.now (Some branch) version.now }
-{
-    let whole = Version {
-        branch: Some(branch),
-        timestamp: u64::MAX,
-    };
-    table.history().path_has(&whole, key, version)
-}
-
-/// Whether a version lies on the path of a key's current branch.
-fn is_on_current(table: &TableState, key: &Key, version: &Version) -> bool
-    ensures { result ≡ is_on_branch table.now.config table.now key.now (branch_in table.now.config table.now key.now) version.now }
-{
-    match branch_of(table, key) {
-        Some(branch) => is_on_whole(table, key, branch, version),
-        None => false,
-    }
-}
+use world_core::is_on_current;
 
 fn is_read(what: &Op) -> bool
     ensures { result ≡ is_read what.now }

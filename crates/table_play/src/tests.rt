@@ -3,9 +3,12 @@ use crate::play::play;
 use line_io::{MemorySink, MemorySource};
 use memory::OutOfMemory;
 use node_core::Journal;
+use region_map::Key;
+use register_laws::{Reply, Told};
 use std::alloc::Global;
 use std::process::Abort;
 use std::test::Fail;
+use world_core::story::story;
 
 /// Plays a script from memory to memory; the calls of these numbers of the source and of the sink fail (0: none).
 fn outcome(
@@ -188,5 +191,63 @@ fn refuses_other_words(rt: HostRuntime) -> Result<(), Fail> {
     );
     assert_eq!(rt; sink.bytes(), b"usage\n".as_slice());
     assert_eq!(rt; status.number(), 2);
+    Ok(())
+}
+
+/// A reply in words.
+fn reply_text(reply: &Reply) -> &'static str {
+    match reply {
+        Reply::Was(None) => "none",
+        Reply::Was(Some(value)) => {
+            if value.as_bytes() == b"x".as_slice() {
+                "x"
+            } else {
+                "other"
+            }
+        }
+        Reply::Swapped => "swapped",
+        Reply::Kept(_) => "kept",
+    }
+}
+
+/// The story of a key in the journal of a script: each operation with its reply.
+fn story_text(alloc: Global, script: &[u8], key: &[u8]) -> Result<String, Fail> {
+    let mut source = MemorySource::new(Vec::from_slice(alloc, script)?, Vec::new(alloc));
+    let mut sink = MemorySink::new(alloc, Vec::new(alloc));
+    sink.reserve(4096)?;
+    let mut journal = Journal::empty(alloc);
+    let _status = play(alloc, &["play"], &mut source, &mut sink, &mut journal);
+    let key = Key::new(Vec::from_slice(alloc, key)?)?;
+    let told: Vec<Told> = story(alloc, &journal, &key)?;
+    let mut text = String::new(alloc);
+    for one in told.as_slice() {
+        let piece = format!(in alloc; " {} {}", one.op.0, reply_text(&one.reply))?;
+        text.push_str(piece.as_str())?;
+    }
+    Ok(text)
+}
+
+/// Operations on two keys.
+const TWO_KEYS: &[u8] =
+    b"{\"do\":\"setup\",\"nodes\":1,\"hash\":1}\n{\"do\":\"put\",\"op\":1,\"node\":0,\"key\":\"a\",\"value\":\"x\"}\n{\"do\":\"put\",\"op\":2,\"node\":0,\"key\":\"b\",\"value\":\"y\"}\n{\"do\":\"read\",\"op\":3,\"node\":0,\"key\":\"a\"}\n{\"do\":\"cas\",\"op\":4,\"node\":0,\"key\":\"a\",\"expect\":\"x\",\"value\":\"z\"}\n{\"do\":\"cas\",\"op\":5,\"node\":0,\"key\":\"a\",\"expect\":\"x\",\"value\":null}\n";
+
+/// A put and a read of which nothing is delivered.
+const UNDECIDED: &[u8] =
+    b"{\"do\":\"setup\",\"nodes\":3,\"hash\":1}\n{\"do\":\"put\",\"op\":1,\"node\":0,\"key\":\"a\",\"value\":\"x\"}\n{\"do\":\"read\",\"op\":2,\"node\":0,\"key\":\"a\"}\n";
+
+#[test]
+fn tells_the_story_of_one_key(rt: HostRuntime) -> Result<(), Fail> {
+    let alloc = rt.alloc();
+    let cases: [(&[u8], &[u8], &str); 4] = [
+        (TWO_KEYS, b"a", " 1 none 3 x 4 swapped 5 kept"),
+        (TWO_KEYS, b"b", " 2 none"),
+        (TWO_KEYS, b"c", ""),
+        // a read that is not done stands in no story
+        (UNDECIDED, b"a", " 1 none"),
+    ];
+    for (script, key, told) in cases {
+        let text = story_text(alloc, script, key)?;
+        assert_eq!(rt; text.as_str(), told);
+    }
     Ok(())
 }

@@ -8,9 +8,11 @@ pub mod AskedRunsTables
 pub mod Begun
 pub mod BegunPaths
 pub mod BranchStarts
+pub mod Branches
 pub mod DrawnIds
 pub mod Facts
 pub mod GivingUp
+pub mod Keeping
 pub mod Keyed
 pub mod KeyedFacts
 pub mod KeyedLaws
@@ -33,6 +35,7 @@ pub mod LedRows
 pub mod LedRuns
 pub mod LedShards
 pub mod LedStarts
+pub mod Lists
 pub mod LogReceivers
 pub mod LogWorldLaws
 pub mod LogWorldMoves
@@ -81,5 +84,7 @@ pub mod StoredSetups
 pub mod StoredSteps
 pub mod Table
 pub mod TakenPoints
+pub mod Telling
 pub mod Told
+pub mod Viewing
 pub mod Waits

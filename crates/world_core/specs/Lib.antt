@@ -1,5 +1,6 @@
 pub mod Answers
 pub mod Committed
+pub mod Done
 pub mod DonePoints
 pub mod GivenUp
 pub mod Latest
@@ -11,5 +12,6 @@ pub mod Served
 pub mod Serving
 pub mod Stored
 pub mod Story
+pub mod Telling
 pub mod Waiting
 pub mod World

@@ -1,9 +1,10 @@
 //! All nodes of a table, and the network between them.
-ghost use Rattle.std.specs.Prelude.{◌≡◌, ◌∷◌, ◌++◌, ◌⊎◌, ◌↔◌, [], Some, None, OnOk, OnErr, IfOk, IfErr, IsErrOf, IsTrue, ◌<◌, nat_lt, length};
+ghost use Rattle.std.specs.Prelude.{◌≡◌, ℕ, List, ◌∷◌, ◌++◌, ◌⊎◌, ◌↔◌, [], Some, None, OnOk, OnErr, IfOk, IfErr, IsErrOf, IsTrue, ◌<◌, nat_lt, length};
 ghost use Rattle.std.specs.List.{list_all};
 ghost use Rattle.contract_types.specs.Setup.{IsSetup};
 ghost use Rattle.node_core.specs.declared.journal.Entry.{Entry};
 ghost use Rattle.world_core.specs.Run.{IsRun, message_at, entry_of};
+ghost use Rattle.world_core.specs.Story.{IsRegisterStory, story};
 ghost use Rattle.world_core.specs.Waiting.{waiting, waiting_between};
 ghost use Rattle.world_core.specs.World.{push_refusal, after_refusal, receiver_of, is_up};
 
@@ -52,8 +53,12 @@ impl Model for World {
 impl World {
     /// A table as it begins, with no message sent.
     pub fn begin(alloc: Global, setup: Setup) -> Result<World, OutOfMemory>
-        ensures { IfOk result (λ world. world ≡ record { setup = setup; past = []; lost = []; ended = None }) }
+        ensures begun { IfOk result (λ world. world ≡ record { setup = setup; past = []; lost = []; ended = None }) }
+        ensures run { IfOk result (λ world. IsRun world.setup world.past) }
+        ensures stories { IfOk result (λ world. (key : List ℕ)
+            → IsRegisterStory world.setup world.past key (story world.setup world.past key)) }
     {
+        let _config = setup.config();
         let nodes = begin_nodes(alloc, &setup)?;
         let waits = WaitingSets::begin(alloc, setup.nodes())?;
         let journal = Journal::begin(alloc, setup.copy(alloc)?);
@@ -70,7 +75,8 @@ impl World {
         })
     }
 
-    /// A node is given an input, and steps. The result is the place of the entry in the journal.
+    /// A node is given an input, and steps. The result is the place of the entry in the journal. Whether the event is
+    /// taken or not, the journal is a run, and each key's story is a register story of it.
     pub fn push(&mut self, alloc: Global, node: NodeId, input: Input) -> Result<u64, PushRefused>
         ensures taken { OnOk result (push_refusal self.old node input ≡ None) }
         ensures entry { OnOk result (self.new
@@ -79,7 +85,11 @@ impl World {
         ensures refused { IfErr result (λ why. (why ≡ PushRefused.OutOfMemory)
             ⊎ (push_refusal self.old node input ≡ Some why)) }
         ensures after { IfErr result (λ why. self.new ≡ after_refusal self.old why) }
+        ensures run { IsRun self.new.setup self.new.past }
+        ensures stories { (key : List ℕ)
+            → IsRegisterStory self.new.setup self.new.past key (story self.new.setup self.new.past key) }
     {
+        let _config = self.setup.config();
         if let Some(why) = self.ended {
             return Err(why);
         }

@@ -1,0 +1,11 @@
+-- The empty journal is a run, so its stories are register stories.
+use Rattle.std.proofs.Common.{ℕ, List, [], sym, subst}
+use Rattle.node_core.specs.Journal.{JournalState}
+use Rattle.world_core.specs.Story.{IsRegisterStory, story}
+use Rattle.world_core.proofs.AllStories.{run_stories}
+use Rattle.world_core.proofs.world.World.begin.Goals as goal
+
+pub returns-clause-stories : goal.returns-clause-stories
+returns-clause-stories c =
+    subst (λ (j : JournalState). (key : List ℕ) → IsRegisterStory c.args.setup j.past key (story c.args.setup j.past key)) (sym c.begin-journal.ensures)
+    (run_stories c.args.setup c.config-config.ensures.setup [] tt)
