@@ -33,7 +33,6 @@ use Rattle.exec_types.specs.declared.input.Input.{Input}
 use Rattle.exec_types.specs.declared.input.Input.TheVariants.{Request, GiveUp, See, Tick, Deliver, Crash, Restart}
 use Rattle.exec_types.specs.declared.output.Output.{Output}
 use Rattle.primary_exec.specs.declared.asking.Asking.{Asking}
-use Rattle.primary_exec.specs.Execution.{Execution}
 use Rattle.node_core.specs.declared.journal.Entry.{Entry}
 use Rattle.node_core.specs.Starting.{current_of}
 use Rattle.node_core.specs.Step.{NodeState, node_step, tick_row}
@@ -47,7 +46,7 @@ use Rattle.world_core.proofs.PointBranches.{all_at, all_weaker, all_append}
 use Rattle.world_core.proofs.PointRuns.{points_rise}
 use Rattle.world_core.proofs.AskedRunsLogs.{Each, Carries}
 use Rattle.world_core.proofs.AskedRunsTables.{OnlyRegisters, HasFirst, table_has_first, extended_table, one_of_id}
-use Rattle.world_core.proofs.AskedRunsSteps.{SaysRight, Claims, ClaimsOut, ClaimsSent, ClaimsBrought, AckHolds, AcksHold, MayRegister, TicksRight, Holds, StepHolds, prepared, tick_extends, step_holds, sent_claims}
+use Rattle.world_core.proofs.AskedRunsSteps.{SaysRight, Claims, ClaimsOut, ClaimsSent, ClaimsBrought, AckHolds, AcksHold, MayRegister, TicksRight, prepared, tick_extends, sent_claims, step_holds, Holds, StepHolds}
 use Rattle.world_core.proofs.AskedRunsRoles.{PartsOf, parts_keep, begun_parts}
 
 -- ---- what was asked for stays asked for
@@ -291,19 +290,6 @@ contracts_stay setup ok past h n = (table_first setup past h (asked_facts setup 
 
 pub config_stays : (setup : SetupState) → IsSetup setup → (past : List Entry) → IsRun setup past → (n : ℕ) → (table_of (state setup n past).log).config ≡ setup
 config_stays setup ok past h n = (table_first setup past h (asked_facts setup past h) n).config_is
-
--- a node asks for branches in contracts that have it as their primary, and executes those alone
-pub roles_led : (setup : SetupState) → IsSetup setup → (past : List Entry) → IsRun setup past → (n : ℕ)
-    → AllByRecursion (λ (a : Asking). IsIn (first_contracts 0 setup.shards) a.contract × (is_held_by a.contract.primary (node_id n) ≡ true)) (state setup n past).asking
-    × AllByRecursion (λ (x : Execution). IsIn (first_contracts 0 setup.shards) x.contract × (is_held_by x.contract.primary (node_id n) ≡ true)) (state setup n past).executions
-roles_led setup ok past h n =
-    let s = state setup n past in
-    let p = (asked_facts setup past h).parts n in (
-      all_weaker (λ (a : Asking). IsLedBy setup n a.contract) (λ (a : Asking). IsIn (first_contracts 0 setup.shards) a.contract × (is_held_by a.contract.primary (node_id n) ≡ true)) s.asking
-          (λ a l. (l.known, l.held_by)) p.asking_are,
-      all_weaker (λ (x : Execution). IsLedBy setup n x.contract) (λ (x : Execution). IsIn (first_contracts 0 setup.shards) x.contract × (is_held_by x.contract.primary (node_id n) ≡ true)) s.executions
-          (λ x l. (l.known, l.held_by)) p.executions_are,
-    )
 
 -- ---- what was asked for, at whatever moment
 

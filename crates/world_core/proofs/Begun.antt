@@ -1,13 +1,11 @@
 -- The points of the branch with which a key's shard begins, and their story.
-use Rattle.std.proofs.Common.{◌≡◌, ℕ, Bool, false, ◌&&◌, List, ◌++◌, map, filter, Option, Some, None}
+use Rattle.std.proofs.Common.{ℕ, Bool, false, ◌&&◌, List, filter, Option, Some, None}
 use Rattle.region_map.specs.declared.id.Id.{Id}
 use Rattle.region_map.specs.Keys.{hash_of}
 use Rattle.contract_types.specs.Setup.{SetupState}
 use Rattle.contract_types.specs.Tables.{branch_at, setup as table_of}
-use Rattle.register_laws.specs.declared.operation.Told.{Told}
-use Rattle.register_laws.specs.Lists.{told_from}
 use Rattle.node_core.specs.declared.journal.Entry.{Entry}
-use Rattle.world_core.specs.Story.{Point, points, same_key, call_of, is_shown_point, is_shown_told, up_to_done}
+use Rattle.world_core.specs.Story.{Point, points, same_key}
 use Rattle.exec_types.specs.Sessions.{same_id}
 
 abbrev pub begun_branch : SetupState → List ℕ → Option Id
@@ -23,10 +21,3 @@ is_on_begun setup key p = same_key p.key key && is_branch (begun_branch setup ke
 
 abbrev pub begun_path : SetupState → List Entry → List ℕ → List Point
 begun_path setup past key = filter (is_on_begun setup key) (points past)
-
-abbrev pub begun_story : SetupState → List Entry → List ℕ → List Told
-begun_story setup past key = told_from None (map call_of (filter (is_shown_point past) (begun_path setup past key)))
-
-abbrev pub KeepsBegun : SetupState → List Entry → List ℕ → List Told → Type 0
-KeepsBegun setup earlier key list =
-    (rest : List Told) × (filter (is_shown_told earlier) list ≡ up_to_done earlier (begun_story setup earlier key) ++ rest)

@@ -34,7 +34,7 @@ use Rattle.world_core.proofs.PointBranches.{all_at}
 use Rattle.world_core.proofs.Runs.{some_hash}
 use Rattle.world_core.proofs.DrawnIds.{asked_once}
 use Rattle.world_core.proofs.LedHistories.{some_inner, birth_known, birth_longer, newer_apart}
-use Rattle.world_core.proofs.LedRows.{Lead, lead_of, Kept, kept, Done, Still, Dispatches, Streams, GoesDown, ComesUp}
+use Rattle.world_core.proofs.LedRows.{Lead, lead_of, Kept, kept, Done, Still, Dispatches, GoesDown, ComesUp, Streams}
 use Rattle.world_core.proofs.LedRoles.{asked_from, role_of, lead_region, asking_region, IsAsking, IsLed, asked_led, some_there}
 use Rattle.world_core.proofs.LedRuns.{run_roles, earlier_run, history_grows}
 use Rattle.world_core.proofs.LedAsked.{asking_own, lead_own}

@@ -1,8 +1,7 @@
 -- What holds of the history of a run, and how one more entry keeps it.
-use Rattle.std.proofs.Common.{◌≡◌, ◌≢◌, ℕ, ◌+◌, ◌≤◌, true, false, cond, not, List, [], ◌∷◌, ◌++◌, filter, Option, Some, None, refl, sym, ap, ◌∙◌, subst, ◌⊎◌, inl, inr, arith}
+use Rattle.std.proofs.Common.{◌≡◌, ℕ, ◌+◌, ◌≤◌, true, false, cond, not, List, [], ◌∷◌, ◌++◌, filter, Option, Some, None, refl, sym, ap, ◌∙◌, subst, ◌⊎◌, inl, inr, arith}
 use Rattle.std.proofs.lemmas.Bool.{false≢true, eqb-true, eq-eqb, or_left, or_right, or_cases}
 use Rattle.std.specs.List.{AllByRecursion}
-use Rattle.region_map.specs.declared.id.Id.{Id}
 use Rattle.contract_types.specs.Setup.{SetupState}
 use Rattle.register_laws.specs.declared.operation.OpId.{OpId}
 use Rattle.register_laws.specs.declared.operation.Op.{Op}
@@ -15,9 +14,9 @@ use Rattle.exec_types.specs.declared.outcome.Outcome.TheVariants.{Done, NotServi
 use Rattle.node_core.specs.declared.journal.Entry.{Entry}
 use Rattle.write_dispatch.specs.declared.decided.Decided.{Decided}
 use Rattle.world_core.specs.Run.{requests, is_requested, is_fresh}
-use Rattle.world_core.specs.Story.{Point, IsIn, answer_in, or_else, answer, is_answered_outcome, is_answered, points, points_of, Requests, IsRequested}
+use Rattle.world_core.specs.Story.{Point, IsIn, answer_in, points, points_of, Requests, IsRequested}
 use Rattle.world_core.proofs.Begun.{is_on_begun, begun_path}
-use Rattle.world_core.proofs.Told.{has_point, point_times, point_times-append, has_point-append, TookEffect, TookEffect-more, filter-append, IsIn-append}
+use Rattle.world_core.proofs.Told.{has_point, point_times, TookEffect, TookEffect-more, filter-append}
 
 -- ---- operations and requests
 
@@ -112,109 +111,9 @@ SaysWell setup past e op (NoMajority counts) = is_requested (e ∷ past) op ≡ 
 pub record Says (setup : SetupState) (past : List Entry) (e : Entry) (op : OpId) (outcome : Outcome) : Type 0 where
   pub says : SaysWell setup past e op outcome
 
-pub record History (setup : SetupState) (past : List Entry) : Type 0 where
-  pub requested : (p : Point) → IsIn (points past) p → IsRequested past p.key p.op p.what
-  pub once : (op : OpId) → point_times (points past) op ≤ 1
-  pub answered : (op : OpId) → is_answered past op ≡ true → is_requested past op ≡ true
-  pub done : (op : OpId) (reply : Reply) (branch : Id) (timestamp : ℕ) → answer past op ≡ Some (Done reply branch timestamp) → Waits setup past (Some op) reply
-  pub served : (op : OpId) → has_point (points past) op ≡ true → answer past op ≢ Some NotServing
-
 -- what a step of a run adds to the history
 pub record Adds (setup : SetupState) (past : List Entry) (e : Entry) : Type 0 where
   pub fresh : is_fresh past e.input ≡ true
   pub new : (p : Point) → IsIn (points_of e.input e.outputs) p → Requests e.input p.key p.op p.what
   pub few : (op : OpId) → point_times (points_of e.input e.outputs) op ≤ 1
   pub says : (op : OpId) (outcome : Outcome) → answer_in e.outputs op ≡ Some outcome → Says setup past e op outcome
-
-says_requested : (setup : SetupState) (past : List Entry) (e : Entry) (op : OpId) (outcome : Outcome) → SaysWell setup past e op outcome → is_requested (e ∷ past) op ≡ true
-says_requested setup past e op (Done reply branch timestamp) h = IsRequested-test (e ∷ past) h.0 op h.1 h.2
-says_requested setup past e op NotServing h = or_left (requests e.input op) (is_requested past op) h.0
-says_requested setup past e op (NoMajority counts) h = h
-
-History-requested : (setup : SetupState) (past : List Entry) (e : Entry) → History setup past → Adds setup past e → (p : Point) → IsIn (points (e ∷ past)) p → IsRequested (e ∷ past) p.key p.op p.what
-History-requested setup past e h a p i =
-    elim (IsIn-append (points past) (points_of e.input e.outputs) p i) [
-      | inl old ↦ inr (h.requested p old)
-      | inr new ↦ inl (a.new p new)
-    ]
-
--- an operation with an old point and a new one
-twice : (setup : SetupState) (past : List Entry) (e : Entry) → History setup past → Adds setup past e → (op : OpId) (p q : Point) → IsIn (points past) p → p.op ≡ op → IsIn (points_of e.input e.outputs) q → q.op ≡ op → ⊥
-twice setup past e h a op p q i pe j qe =
-    let new : requests e.input op ≡ true = ap (requests e.input) (sym qe) ∙ Requests-test e.input q.key q.op q.what (a.new q j) in
-    let old : is_requested past op ≡ true = ap (is_requested past) (sym pe) ∙ IsRequested-test past p.key p.op p.what (h.requested p i) in
-    fresh_apart past e.input op a.fresh new old
-
-History-once : (setup : SetupState) (past : List Entry) (e : Entry) → History setup past → Adds setup past e → (op : OpId) → point_times (points (e ∷ past)) op ≤ 1
-History-once setup past e h a op =
-    let sum = point_times-append (points past) (points_of e.input e.outputs) op in
-    let old = h.once op in
-    let new = a.few op in
-    elim (point_times_or (points past) op) [
-      | inl z ↦ omega (arith, sum, old, new, z)
-      | inr p ↦ elim (point_times_or (points_of e.input e.outputs) op) [
-        | inl z ↦ omega (arith, sum, old, new, z)
-        | inr q ↦ absurd (twice setup past e h a op p.0 q.0 p.1 p.2 q.1 q.2)
-      ]
-    ]
-
-History-answered : (setup : SetupState) (past : List Entry) (e : Entry) → History setup past → Adds setup past e → (op : OpId) → is_answered (e ∷ past) op ≡ true → is_requested (e ∷ past) op ≡ true
-History-answered setup past e h a op =
-    elim (answer past op) as (λ v. answer past op ≡ v → is_answered_outcome (or_else v (answer_in e.outputs op)) ≡ true → is_requested (e ∷ past) op ≡ true) [
-      | Some outcome ↦ λ is _. or_right (requests e.input op) (is_requested past op) (h.answered op (ap is_answered_outcome is))
-      | None ↦ λ _ k.
-          elim (answer_in e.outputs op) as (λ v. answer_in e.outputs op ≡ v → is_answered_outcome v ≡ true → is_requested (e ∷ past) op ≡ true) [
-            | Some outcome ↦ λ is _. says_requested setup past e op outcome (a.says op outcome is).says
-            | None ↦ λ _ no'. absurd (false≢true no')
-          ] refl k
-    ] refl
-
-History-done : (setup : SetupState) (past : List Entry) (e : Entry) → History setup past → Adds setup past e → (op : OpId) (reply : Reply) (branch : Id) (timestamp : ℕ) → answer (e ∷ past) op ≡ Some (Done reply branch timestamp) → Waits setup (e ∷ past) (Some op) reply
-History-done setup past e h a op reply branch timestamp =
-    elim (answer past op) as (λ v. answer past op ≡ v → or_else v (answer_in e.outputs op) ≡ Some (Done reply branch timestamp) → Waits setup (e ∷ past) (Some op) reply) [
-      | Some outcome ↦ λ is k. Waits-more setup past e (Some op) reply (h.done op reply branch timestamp (is ∙ k))
-      | None ↦ λ _ k. (a.says op (Done reply branch timestamp) k).says
-    ] refl
-
-History-served : (setup : SetupState) (past : List Entry) (e : Entry) → History setup past → Adds setup past e → (op : OpId) → has_point (points (e ∷ past)) op ≡ true → answer (e ∷ past) op ≢ Some NotServing
-History-served setup past e h a op has =
-    let where' = or_cases (has_point (points past) op) (has_point (points_of e.input e.outputs) op) (sym (has_point-append (points past) (points_of e.input e.outputs) op) ∙ has) in
-    elim (answer past op) as (λ v. answer past op ≡ v → or_else v (answer_in e.outputs op) ≢ Some NotServing) [
-      | Some outcome ↦ λ is k.
-          elim where' [
-            | inl old ↦ h.served op old (is ∙ k)
-            | inr new ↦
-                let p = has_point_of (points_of e.input e.outputs) op new in
-                let req : requests e.input op ≡ true = ap (requests e.input) (sym p.2) ∙ Requests-test e.input p.0.key p.0.op p.0.what (a.new p.0 p.1) in
-                fresh_apart past e.input op a.fresh req (h.answered op (ap is_answered_outcome is))
-          ]
-      | None ↦ λ _ k.
-          let s : SaysWell setup past e op NotServing = (a.says op NotServing k).says in
-          elim where' [
-            | inl old ↦
-                let p = has_point_of (points past) op old in
-                let req : is_requested past op ≡ true = ap (is_requested past) (sym p.2) ∙ IsRequested-test past p.0.key p.0.op p.0.what (h.requested p.0 p.1) in
-                fresh_apart past e.input op a.fresh s.0 req
-            | inr new ↦ false≢true (ap (λ (l : List Point). has_point l op) (sym s.1) ∙ new)
-          ]
-    ] refl
-
-pub History-more : (setup : SetupState) (past : List Entry) (e : Entry) → History setup past → Adds setup past e → History setup (e ∷ past)
-History-more setup past e h a =
-    record {
-      requested = History-requested setup past e h a;
-      once = History-once setup past e h a;
-      answered = History-answered setup past e h a;
-      done = History-done setup past e h a;
-      served = History-served setup past e h a;
-    }
-
-pub History-nil : (setup : SetupState) → History setup []
-History-nil setup =
-    record {
-      requested = λ p i. absurd i;
-      once = λ op. omega arith;
-      answered = λ op h. absurd (false≢true h);
-      done = λ op reply branch timestamp h. cc;
-      served = λ op h. absurd (false≢true h);
-    }

@@ -1,12 +1,9 @@
 -- What holds in every run of stories and answers.
-use Rattle.std.proofs.Common.{◌≡◌, true, ◌&&◌, ℕ, List, ◌++◌, Some}
-use Rattle.std.specs.List.{list_any}
+use Rattle.std.proofs.Common.{◌≡◌, true, ℕ, List, ◌++◌, Some}
 use Rattle.register_laws.specs.declared.operation.OpId.{OpId}
 use Rattle.contract_types.specs.Setup.{SetupState, IsSetup}
 use Rattle.exec_types.specs.declared.outcome.Outcome.TheVariants.{NotServing}
-use Rattle.store_api.specs.Rows.{has_key}
 use Rattle.node_core.specs.declared.journal.Entry.{Entry}
-use Rattle.node_core.specs.Step.{is_led, serves}
 use Rattle.world_core.specs.Run.{is_requested, state, IsRun}
 use Rattle.world_core.specs.Served.{IsNotServed}
 use Rattle.world_core.specs.Story.{answer, is_answered, story, IsRegisterStory}
@@ -15,7 +12,7 @@ use Rattle.world_core.proofs.Keyed.{keyed_story}
 use Rattle.world_core.proofs.KeyedFacts.{AddsAlong}
 use Rattle.world_core.proofs.KeyedNodes.{KeyedNode, holding}
 use Rattle.world_core.proofs.KeyedStory.{register_story}
-use Rattle.world_core.proofs.KeyedRuns.{keyed_nodes, requested, refused_only, refused_always, serves_led}
+use Rattle.world_core.proofs.KeyedRuns.{keyed_nodes, requested, refused_only, refused_always}
 
 -- what holds of each node over all operations on the keys that it leads
 pub keyed_facts : (setup : SetupState) → IsSetup setup → (past : List Entry) → IsRun setup past → AddsAlong past × ((n : ℕ) → KeyedNode setup past n (holding (state setup n past)))
@@ -36,8 +33,3 @@ answered_not_served setup ok = refused_only setup ok (contracts_stay setup ok)
 
 pub not_served_answered : (setup : SetupState) → IsSetup setup → (past : List Entry) → IsRun setup past → (op : OpId) → IsNotServed setup past op → answer past op ≡ Some NotServing
 not_served_answered setup ok = refused_always setup ok (contracts_stay setup ok)
-
--- a node serves keys alone of shards that have it as their primary
-pub served_led : (setup : SetupState) → IsSetup setup → (past : List Entry) → IsRun setup past → (n : ℕ) (key : List ℕ)
-    → serves (state setup n past) key ≡ true → list_any (λ s. is_led n s && has_key s.region setup.hashes key) setup.shards ≡ true
-served_led setup ok = serves_led setup ok (contracts_stay setup ok)

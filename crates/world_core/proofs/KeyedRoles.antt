@@ -107,12 +107,6 @@ holders-placed cs x (y ∷ ys) h k =
     (λ (l : List Execution). holders exec_region l h k ≡ holders exec_region (x ∷ []) h k + holders exec_region (y ∷ ys) h k)
     (λ _. two) (λ _. omega (arith, rest, more, least))
 
--- ---- with which a node begins
-
-count_one : (c : Bool) (t : ℕ) → cond c (1 + t) t ≡ cond c 1 0 + t
-count_one true t = refl
-count_one false t = omega arith
-
 -- one that has a region, where it is taken
 taken_one : (taken c : Bool) (more t : ℕ) → more ≡ t → cond taken (cond c (1 + more) more) more ≡ cond (taken && c) 1 0 + t
 taken_one true true more t e = omega (arith, e)

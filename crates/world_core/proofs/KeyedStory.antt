@@ -1,5 +1,5 @@
 -- The story of all operations on a key is a register story.
-use Rattle.std.proofs.Common.{◌≡◌, ◌≢◌, ℕ, ◌+◌, ◌≤◌, Bool, true, false, cond, not, ◌&&◌, ◌||◌, List, [], ◌∷◌, ◌++◌, filter, Some, None, refl, sym, ap, ◌∙◌, subst, inl, inr, arith, append_assoc, append-nil}
+use Rattle.std.proofs.Common.{◌≡◌, ◌≢◌, ℕ, ◌≤◌, Bool, true, false, not, ◌&&◌, ◌||◌, List, [], ◌∷◌, ◌++◌, filter, Some, None, refl, sym, ap, ◌∙◌, subst, inl, inr, arith, append_assoc, append-nil}
 use Rattle.std.proofs.lemmas.Bool.{false≢true, or_left, or_right, or_parts, not-false}
 use Rattle.region_map.specs.declared.id.Id.{Id}
 use Rattle.contract_types.specs.Setup.{SetupState}
@@ -74,12 +74,6 @@ points_later [] earlier = ([], sym (append-nil (points earlier)))
 points_later (e ∷ later) earlier =
     let r = points_later later earlier in
     (r.0 ++ points_of e.input e.outputs, ap (λ (l : List Point). l ++ points_of e.input e.outputs) r.1 ∙ append_assoc (points earlier) r.0 (points_of e.input e.outputs))
-
--- ---- counts
-
-counts_one : (b : Bool) (n : ℕ) → b ≡ true → 1 ≤ cond b 1 0 + n
-counts_one true n e = omega arith
-counts_one false n e = absurd (false≢true e)
 
 story_times : (past : List Entry) → History past → (key : List ℕ) (op : OpId) → times (keyed_story past key) op ≤ 1
 story_times past h key op =

@@ -30,10 +30,6 @@ iff true y h g = sym (h refl)
 iff false true h g = g refl
 iff false false h g = refl
 
-none_true : (b : Bool) → (b ≡ true → false ≡ true) → b ≡ false
-none_true true h = sym (h refl)
-none_true false h = refl
-
 -- one below the bound that passes
 any_found : (p : ℕ → Bool) (k : ℕ) → any_below p k ≡ true → (i : ℕ) × (i < k) × (p i ≡ true)
 any_found p zero h = absurd (false≢true h)

@@ -27,7 +27,7 @@ use Rattle.world_core.specs.Story.{Point, IsIn}
 use Rattle.world_core.proofs.Nodes.{holders-in}
 use Rattle.world_core.proofs.PointBranches.{all_weaker, all_append}
 use Rattle.world_core.proofs.Setups.{exec_region, setup_contract, begin_hashes, at_one_node, one_shard}
-use Rattle.world_core.proofs.LedRows.{Lead, lead_of, leads_of, regions_of, Kept, kept, Done, Still, Dispatches, Streams, GoesDown, ComesUp, decided_leads}
+use Rattle.world_core.proofs.LedRows.{Lead, lead_of, leads_of, regions_of, Kept, kept, Done, Still, Dispatches, GoesDown, ComesUp, decided_leads, Streams}
 
 abbrev pub lead_region : Lead → Region
 lead_region x = x.contract.region
@@ -103,19 +103,6 @@ asked_count me life next (c ∷ cs) h b =
 
 pub contracts_few : (setup : SetupState) → IsSetup setup → (h : ℕ) (b : List ℕ) → holders contract_region (first_contracts 0 setup.shards) h b ≤ 1
 contracts_few setup ok h b = few setup [] 0 h b ok.config
-
--- ---- one that has a pair, and no other
-
-pub none_other : {T : Type 0} (place : T → Region) (xs : List T) (h : ℕ) (b : List ℕ) → holders place xs h b ≡ 0 → (x : T) → IsIn xs x → in_region (place x) h b ≡ true → ⊥
-none_other place [] h b none x i inside = i
-none_other place (y ∷ ys) h b none x i inside =
-    elim i [
-      | inl e ↦ let c = holders-in place y ys h b (subst (λ z. in_region (place z) h b ≡ true) (sym e) inside) in omega (arith, c, none)
-      | inr j ↦ none_other place ys h b (elim (in_region (place y) h b) as (λ v. cond v (1 + holders place ys h b) (holders place ys h b) ≡ 0 → holders place ys h b ≡ 0) [
-        | true ↦ λ e. absurd (omega (arith, e))
-        | false ↦ λ e. e
-      ] none) x j inside
-    ]
 
 pub some_there : {T : Type 0} (place : T → Region) (xs : List T) (h : ℕ) (b : List ℕ) (x : T) → IsIn xs x → in_region (place x) h b ≡ true → 1 ≤ holders place xs h b
 some_there place [] h b x i inside = absurd i

@@ -6,12 +6,10 @@ pub mod AskedRunsRoles
 pub mod AskedRunsSteps
 pub mod AskedRunsTables
 pub mod Begun
-pub mod BegunPaths
 pub mod BranchStarts
 pub mod Branches
 pub mod DrawnIds
 pub mod Facts
-pub mod GivingUp
 pub mod Keeping
 pub mod Keyed
 pub mod KeyedFacts
@@ -50,7 +48,6 @@ pub mod OnPathTables
 pub mod Once
 pub mod OnceGivenUp
 pub mod OnceWaits
-pub mod Orders
 pub mod Outs
 pub mod Pairs
 pub mod PathOrder
@@ -71,7 +68,6 @@ pub mod ServedLaws
 pub mod ServedTenures
 pub mod Setups
 pub mod ShardRoles
-pub mod Single
 pub mod States
 pub mod Stays
 pub mod Steps

@@ -1,6 +1,6 @@
 -- What holds of each node of a run, and what an entry leaves as it was.
 use Rattle.std.proofs.Common.{◌≡◌, ℕ, ◌+◌, ◌≤◌, ◌<◌, true, false, cond, List, [], ◌∷◌, map, Some, None, refl, sym, ap, ◌∙◌, inl, inr, arith}
-use Rattle.std.proofs.lemmas.Bool.{false≢true, or_cases, or_parts}
+use Rattle.std.proofs.lemmas.Bool.{false≢true, or_cases}
 use Rattle.std.specs.List.{list_any, AllByRecursion}
 use Rattle.region_map.specs.declared.region.Region.{Region}
 use Rattle.region_map.specs.Keys.{hash_of}
@@ -36,9 +36,6 @@ holders-same place xs ys h k e = holders-map place xs h k ∙ ap (λ rs. holders
 pub holders-in : {T : Type 0} (place : T → Region) (x : T) (xs : List T) (h : ℕ) (k : List ℕ) → in_region (place x) h k ≡ true → holders place (x ∷ xs) h k ≡ 1 + holders place xs h k
 holders-in place x xs h k e = ap (λ b. cond b (1 + holders place xs h k) (holders place xs h k)) e
 
-pub holders-out : {T : Type 0} (place : T → Region) (x : T) (xs : List T) (h : ℕ) (k : List ℕ) → in_region (place x) h k ≡ false → holders place (x ∷ xs) h k ≡ holders place xs h k
-holders-out place x xs h k e = ap (λ b. cond b (1 + holders place xs h k) (holders place xs h k)) e
-
 -- a list has at least as many as its rest, and as its first alone
 pub holders-rest : {T : Type 0} (place : T → Region) (x : T) (xs : List T) (h : ℕ) (k : List ℕ) → holders place (x ∷ xs) h k ≡ holders place (x ∷ []) h k + holders place xs h k
 holders-rest place x xs h k =
@@ -46,13 +43,6 @@ holders-rest place x xs h k =
       | true ↦ omega arith
       | false ↦ omega arith
     ]
-
--- where none is for a key none has its pair
-pub none_holds : (hashes : ℕ) (key : List ℕ) (xs : List Execution) → list_any (is_for hashes key) xs ≡ false → holders exec_region xs (hash_of key hashes) key ≡ 0
-none_holds hashes key [] e = refl
-none_holds hashes key (x ∷ xs) e =
-    let both = or_parts (is_for hashes key x) (list_any (is_for hashes key) xs) e in
-    holders-out exec_region x xs (hash_of key hashes) key both.0 ∙ none_holds hashes key xs both.1
 
 -- where one is for a key it has its pair
 pub some_holds : (hashes : ℕ) (key : List ℕ) (xs : List Execution) → list_any (is_for hashes key) xs ≡ true → 0 < holders exec_region xs (hash_of key hashes) key

@@ -31,7 +31,7 @@ use Rattle.store_api.specs.declared.Row.{Row}
 use Rattle.store_api.specs.Rows.{Rows, has_key, row_of, value_in, value_of, with_row}
 use Rattle.store_api.specs.Versions.{point, is_behind, comes_to, advanced_rows, advanced_map}
 use Rattle.store_api.proofs.RowLemmas.{row_of-with_row_same, row_of-with_row_other}
-use Rattle.store_api.proofs.VersionMaps.{advanced_map_hashes, advanced_map_at}
+use Rattle.store_api.proofs.VersionMaps.{advanced_map_at}
 use Rattle.write_dispatch.specs.declared.decided.Decided.{Decided}
 use Rattle.primary_exec.specs.declared.session.Session.{Session}
 use Rattle.primary_exec.specs.Execution.{Execution, PrimaryStep, has_room, sends, part_of, dispatch_row}
@@ -169,14 +169,6 @@ request_regions hashes (x ∷ xs) rows versions op key what =
     cond_both (is_for hashes key x) (dispatched (dispatch_row x rows versions op key what) xs) (passed_on x rest)
     (λ (r : Requested). map exec_region r.executions ≡ map exec_region (x ∷ xs))
     (λ _. refl) (λ _. ap (λ rs. x.contract.region ∷ rs) (request_regions hashes xs rows versions op key what))
-
-pub request_hashes : (hashes : ℕ) (xs : List Execution) (rows : Rows) (versions : Pieced Version) (op : OpId) (key : List ℕ) (what : Op) → (request_all hashes xs rows versions op key what).versions.hashes ≡ versions.hashes
-request_hashes hashes [] rows versions op key what = refl
-request_hashes hashes (x ∷ xs) rows versions op key what =
-    let rest : Requested = request_all hashes xs rows versions op key what in
-    cond_both (is_for hashes key x) (dispatched (dispatch_row x rows versions op key what) xs) (passed_on x rest)
-    (λ (r : Requested). r.versions.hashes ≡ versions.hashes)
-    (λ _. advanced_map_hashes x.contract.region x.branch (x.last + 1) versions) (λ _. request_hashes hashes xs rows versions op key what)
 
 abbrev pub point_at : OpId → List ℕ → Op → Id → ℕ → Point
 point_at op key what branch at = record { op = op; what = what; key = key; branch = branch; timestamp = at }

@@ -35,13 +35,6 @@ use Rattle.world_core.proofs.KeyedNodes.{regions_map}
 use Rattle.world_core.proofs.KeyedRoles.{asking_region, led, holders-append, holders-placed, executions_led, askings_led}
 use Rattle.world_core.proofs.LedRuns.{run_roles}
 
--- ---- what a row does to them
-
-record Same (s t : NodeState) : Type 0 where
-  up : t.up ≡ s.up
-  runs : (h : ℕ) (k : List ℕ) → holders exec_region t.executions h k ≡ holders exec_region s.executions h k
-  asks : t.asking ≡ s.asking
-
 pub data Goes (s t : NodeState) : Type 0 where
   Lasts : t.up ≡ s.up → ((h : ℕ) (k : List ℕ) → holders exec_region t.executions h k ≡ holders exec_region s.executions h k) → t.asking ≡ s.asking → Goes s t
   Down : t.up ≡ false → t.executions ≡ [] → t.asking ≡ [] → Goes s t

@@ -1,7 +1,6 @@
 -- What a table begins with: each pair lies in one shard at most, and a primary stands at its branch.
 use Rattle.std.proofs.Common.{◌≡◌, ◌==◌, ℕ, ◌+◌, ◌<◌, ◌≤◌, Bool, true, false, cond, ◌&&◌, not, nat_lt, List, [], ◌∷◌, ◌++◌, Option, Some, is_some, inl, inr, refl, sym, ap, ◌∙◌, arith}
 use Rattle.std.proofs.lemmas.Bool.{eqb-true, cases_lt, cond_both, cond-true}
-use Rattle.std.proofs.lemmas.Bool.Decides.{nat_tests}
 use Rattle.std.specs.List.{AllByRecursion}
 use Rattle.region_map.specs.declared.id.Id.{Id}
 use Rattle.region_map.specs.declared.id.NodeId.{NodeId}
@@ -50,9 +49,6 @@ joins_keep f keeps place x (n ∷ ns) =
 
 pub setup_contract : (contract : Contract) (me : NodeId) (place : ℕ) → (setup_execution contract me place).contract ≡ contract
 setup_contract contract me place = joins_keep (λ x. x.contract) (λ x server name. refl) place (begun contract me (setup_id place me)) contract.replicas
-
-pub setup_me : (contract : Contract) (me : NodeId) (place : ℕ) → (setup_execution contract me place).me ≡ me
-setup_me contract me place = joins_keep (λ x. x.me) (λ x server name. refl) place (begun contract me (setup_id place me)) contract.replicas
 
 pub setup_branch : (contract : Contract) (me : NodeId) (place : ℕ) → (setup_execution contract me place).branch ≡ setup_id place me
 setup_branch contract me place = joins_keep (λ x. x.branch) (λ x server name. refl) place (begun contract me (setup_id place me)) contract.replicas
@@ -143,18 +139,6 @@ at_one_node n place (s ∷ ss) h k =
     let f : ℕ = holders following_region (followings_from n (place + 1) ss) h k in
     let c = counts_apart (is_led n s) (is_followed n s) (in_region s.region h k) e f (holders shard_region ss h k) (led_or_followed (is_led n s) (has s.replicas n)) (at_one_node n (place + 1) ss h k) in
     rw (led_more n place s ss h k, followed_more n place s ss h k) c
-
-led_once : (n m : ℕ) (s : ShardConfig) → (n == m) ≡ false → (is_led n s && is_led m s) ≡ false
-led_once n m s apart = grind (arith, nat_tests)
-
-pub at_two_nodes : (n m place : ℕ) (ss : List ShardConfig) (h : ℕ) (k : List ℕ) → (n == m) ≡ false
-    → holders exec_region (executions_from n place ss) h k + holders exec_region (executions_from m place ss) h k ≤ holders shard_region ss h k
-at_two_nodes n m place [] h k apart = omega arith
-at_two_nodes n m place (s ∷ ss) h k apart =
-    let e : ℕ = holders exec_region (executions_from n (place + 1) ss) h k in
-    let f : ℕ = holders exec_region (executions_from m (place + 1) ss) h k in
-    let c = counts_apart (is_led n s) (is_led m s) (in_region s.region h k) e f (holders shard_region ss h k) (led_once n m s apart) (at_two_nodes n m (place + 1) ss h k apart) in
-    rw (led_more n place s ss h k, led_more m place s ss h k) c
 
 pub one_shard : (setup : SetupState) → IsSetup setup → (h : ℕ) (k : List ℕ) → holders shard_region setup.shards h k ≤ 1
 one_shard setup ok h k =

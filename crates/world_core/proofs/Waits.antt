@@ -97,13 +97,6 @@ comes_one ms e a b n =
           ap (λ x. x && is_between a b (numbered (ms ++ e ∷ []) n)) apart ∙ ap (λ x. x && is_between a b (Some e)) (sym apart)
     ]
 
--- none comes where there are no more
-pub comes_none : (ms : List Envelope) (a b : NodeId) (n : ℕ) → comes_between (length ms) ms a b n ≡ false
-comes_none ms a b n = ap (λ x. x && is_between a b (numbered ms n)) (none (length ms) n)
-  where
-    none : (l n : ℕ) → (nat_lt l n && nat_le n l) ≡ false
-    none l n = grind (arith, nat_tests)
-
 -- those that come behind some, and these, are those that come
 pub comes_more : (ms more : List Envelope) (k : ℕ) → k ≤ length ms → (a b : NodeId) (n : ℕ)
     → (comes_between (length ms) (ms ++ more) a b n || comes_between k ms a b n) ≡ comes_between k (ms ++ more) a b n

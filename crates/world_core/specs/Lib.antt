@@ -5,7 +5,6 @@ pub mod DonePoints
 pub mod GivenUp
 pub mod Latest
 pub mod Pairs
-pub mod Quiet
 pub mod Rising
 pub mod Run
 pub mod Served
