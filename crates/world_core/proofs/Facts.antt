@@ -1,5 +1,5 @@
 -- What holds of the history of a run, and how one more entry keeps it.
-use Rattle.std.proofs.Common.{◌≡◌, ℕ, ◌+◌, ◌≤◌, true, false, cond, not, List, [], ◌∷◌, ◌++◌, filter, Option, Some, None, refl, sym, ap, ◌∙◌, subst, ◌⊎◌, inl, inr, arith}
+use Rattle.std.proofs.Common.{◌≡◌, ℕ, ◌+◌, true, false, cond, not, List, [], ◌∷◌, ◌++◌, filter, Option, Some, None, refl, sym, ap, ◌∙◌, subst, ◌⊎◌, inl, inr, arith}
 use Rattle.std.proofs.lemmas.Bool.{false≢true, eqb-true, eq-eqb, or_left, or_right, or_cases}
 use Rattle.std.specs.List.{AllByRecursion}
 use Rattle.contract_types.specs.Setup.{SetupState}
@@ -14,7 +14,7 @@ use Rattle.exec_types.specs.declared.outcome.Outcome.TheVariants.{Done, NotServi
 use Rattle.node_core.specs.declared.journal.Entry.{Entry}
 use Rattle.write_dispatch.specs.declared.decided.Decided.{Decided}
 use Rattle.world_core.specs.Run.{requests, is_requested, is_fresh}
-use Rattle.world_core.specs.Story.{Point, IsIn, answer_in, points, points_of, Requests, IsRequested}
+use Rattle.world_core.specs.Story.{Point, IsIn, points, points_of, Requests, IsRequested}
 use Rattle.world_core.proofs.Begun.{is_on_begun, begun_path}
 use Rattle.world_core.proofs.Told.{has_point, point_times, TookEffect, TookEffect-more, filter-append}
 
@@ -107,13 +107,3 @@ abbrev pub SaysWell : SetupState → List Entry → Entry → OpId → Outcome �
 SaysWell setup past e op (Done reply branch timestamp) = Waits setup (e ∷ past) (Some op) reply
 SaysWell setup past e op NotServing = (requests e.input op ≡ true) × (points_of e.input e.outputs ≡ [])
 SaysWell setup past e op (NoMajority counts) = is_requested (e ∷ past) op ≡ true
-
-pub record Says (setup : SetupState) (past : List Entry) (e : Entry) (op : OpId) (outcome : Outcome) : Type 0 where
-  pub says : SaysWell setup past e op outcome
-
--- what a step of a run adds to the history
-pub record Adds (setup : SetupState) (past : List Entry) (e : Entry) : Type 0 where
-  pub fresh : is_fresh past e.input ≡ true
-  pub new : (p : Point) → IsIn (points_of e.input e.outputs) p → Requests e.input p.key p.op p.what
-  pub few : (op : OpId) → point_times (points_of e.input e.outputs) op ≤ 1
-  pub says : (op : OpId) (outcome : Outcome) → answer_in e.outputs op ≡ Some outcome → Says setup past e op outcome

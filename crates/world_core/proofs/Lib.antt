@@ -51,7 +51,6 @@ pub mod OnceWaits
 pub mod Outs
 pub mod Pairs
 pub mod PathOrder
-pub mod Plain
 pub mod PointBegins
 pub mod PointBranches
 pub mod PointRuns
@@ -70,7 +69,6 @@ pub mod Setups
 pub mod ShardRoles
 pub mod States
 pub mod Stays
-pub mod Steps
 pub mod StoredFirsts
 pub mod StoredLaws
 pub mod StoredMoves

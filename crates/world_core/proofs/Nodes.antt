@@ -11,15 +11,13 @@ use Rattle.contract_types.specs.Setup.{SetupState}
 use Rattle.contract_types.specs.Tilings.{holders}
 use Rattle.store_api.specs.Rows.{Rows, row_of, value_in, value_of}
 use Rattle.store_api.specs.Versions.{point}
-use Rattle.secondary_exec.specs.declared.following.Following.{Following}
 use Rattle.primary_exec.specs.Execution.{Execution}
 use Rattle.node_core.specs.declared.journal.Entry.{Entry}
 use Rattle.node_core.specs.Parts.{is_for}
-use Rattle.node_core.specs.Step.{executions_from, followings_from}
 use Rattle.world_core.proofs.Begun.{begun_branch, begun_path}
 use Rattle.world_core.proofs.Told.{after}
 use Rattle.world_core.proofs.Facts.{WaitsWell, WaitsWell-more}
-use Rattle.world_core.proofs.Setups.{exec_region, following_region}
+use Rattle.world_core.proofs.Setups.{exec_region}
 
 -- ---- how many have a pair in their region
 
@@ -66,13 +64,6 @@ pub record ExecutionFacts (setup : SetupState) (past : List Entry) (rows : Rows)
 
 abbrev pub AllRun : SetupState → List Entry → Rows → Pieced Version → List Execution → Type 0
 AllRun setup past rows versions xs = AllByRecursion (ExecutionFacts setup past rows versions) xs
-
--- a node has the regions that it began with, and the facts of each execution
-pub record NodeFacts (setup : SetupState) (past : List Entry) (n : ℕ) (rows : Rows) (versions : Pieced Version) (xs : List Execution) (fs : List Following) : Type 0 where
-  pub hashes : versions.hashes ≡ setup.hashes
-  pub regions : map exec_region xs ≡ map exec_region (executions_from n 0 setup.shards)
-  pub followed : map following_region fs ≡ map following_region (followings_from n 0 setup.shards)
-  pub runs : AllRun setup past rows versions xs
 
 -- ---- what stays where a count of holders is 0
 

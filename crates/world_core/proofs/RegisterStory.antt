@@ -1,4 +1,4 @@
--- Each key's story is a register story.
+-- Keys that a test finds the same, and members of a list, which are counted.
 use Rattle.std.proofs.Common.{◌≡◌, ℕ, ◌+◌, ◌≤◌, Bool, true, false, cond, List, [], ◌∷◌, refl, ap, ap₂, ◌∙◌, inl, inr, arith}
 use Rattle.std.proofs.lemmas.Bool.{false≢true, eqb-true, and_parts}
 use Rattle.register_laws.specs.declared.operation.Told.{Told}

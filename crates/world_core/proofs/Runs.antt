@@ -1,4 +1,4 @@
--- The invariants of every quiet run.
+-- A table has a number of hashes that is not 0.
 use Rattle.std.proofs.Common.{◌≡◌, ℕ, zero, suc, ◌<◌, true, ◌&&◌, nat_lt, nat_le, arith}
 use Rattle.std.proofs.lemmas.Bool.{false≢true, and_parts}
 use Rattle.contract_types.specs.Setup.{SetupState, IsSetup, is_hashes}
