@@ -1,0 +1,6 @@
+pub mod Backing
+pub mod HeldRuns
+pub mod Holding
+pub mod Places
+pub mod Reached
+pub mod Telling

@@ -1,0 +1,20 @@
+-- Which nodes hold a point: those whose version of its key has the point on its path.
+use Rattle.std.specs.Prelude.{ℕ, Bool, false, List, Option, Some, None}
+use Rattle.region_map.specs.Keys.{hash_of}
+use Rattle.branch_history.specs.declared.version.Version.{Version}
+use Rattle.branch_history.specs.Paths.{Branches, is_on}
+use Rattle.contract_types.specs.Setup.{SetupState}
+use Rattle.store_api.specs.Versions.{point, version_of}
+use Rattle.node_core.specs.declared.journal.Entry.{Entry}
+use Rattle.world_core.specs.Latest.{told_table}
+use Rattle.world_core.specs.Run.{state}
+use Rattle.world_core.specs.Story.{Point}
+
+-- whether a version, where there is one, has the point on its path
+abbrev pub has_on : Branches → ℕ → Point → Option Version → Bool
+has_on history hashes q None = false
+has_on history hashes q (Some version) = is_on history (hash_of q.key hashes) q.key version (point q.branch q.timestamp)
+
+-- whether a node, up or down, has it so, in the table that the journal tells
+abbrev pub holds : SetupState → List Entry → Point → ℕ → Bool
+holds setup past q node = has_on (told_table setup past).history setup.hashes q (version_of (state setup node past).versions q.key)

@@ -1,0 +1,23 @@
+//! Which nodes hold what was done, over every run: nodes tick, go down and come up, and messages come in any order, again and
+//! again, or never.
+ghost use Rattle.std.specs.Prelude.{◌≡◌, ◌<◌, ◌*◌, ℕ, List, ◌++◌, true, length, count_by};
+ghost use Rattle.contract_types.specs.declared.config.ShardConfig.{ShardConfig};
+ghost use Rattle.contract_types.specs.Setup.{SetupState, IsSetup};
+ghost use Rattle.store_api.specs.Rows.{has_key};
+ghost use Rattle.node_core.specs.declared.journal.Entry.{Entry};
+ghost use Rattle.world_core.specs.Run.{IsRun};
+ghost use Rattle.world_core.specs.Story.{Point, IsIn, points};
+ghost use Rattle.world_core.specs.DonePoints.{IsDoneAt};
+ghost use Rattle.durability_laws.specs.Held.{holds};
+
+/// In every run, more than half of the voters of a key's shard hold each done operation's point on the key: their versions of
+/// the key have it on their paths, in nodes that are up and in nodes that are down. As what a run begins with is a run too, so
+/// it is at each moment from the answer on. And a node that holds a point goes on holding it, whether it is a voter or not.
+pub fn done_points_are_held()
+    ensures majority { (setup : SetupState) → IsSetup setup → (past : List Entry) → IsRun setup past
+        → (q : Point) → IsDoneAt past q → (shard : ShardConfig) → IsIn setup.shards shard → has_key shard.region setup.hashes q.key ≡ true
+        → length shard.voters < 2 * count_by (holds setup past q) shard.voters }
+    ensures lasts { (setup : SetupState) → IsSetup setup → (past : List Entry) → IsRun setup past
+        → (later earlier : List Entry) → past ≡ later ++ earlier → (q : Point) → IsIn (points earlier) q
+        → (node : ℕ) → holds setup earlier q node ≡ true → holds setup past q node ≡ true }
+{}
