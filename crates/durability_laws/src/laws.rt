@@ -1,13 +1,17 @@
 //! Which nodes hold what was done, over every run: nodes tick, go down and come up, and messages come in any order, again and
 //! again, or never.
-ghost use Rattle.std.specs.Prelude.{◌≡◌, ◌<◌, ◌*◌, ℕ, List, ◌++◌, true, length, count_by};
+ghost use Rattle.std.specs.Prelude.{◌≡◌, ◌<◌, ◌*◌, ℕ, List, ◌++◌, Some, true, length, count_by};
 ghost use Rattle.contract_types.specs.declared.config.ShardConfig.{ShardConfig};
+ghost use Rattle.contract_types.specs.declared.counts.Counts.{Counts};
 ghost use Rattle.contract_types.specs.Setup.{SetupState, IsSetup};
+ghost use Rattle.register_laws.specs.declared.operation.OpId.{OpId};
+ghost use Rattle.exec_types.specs.declared.outcome.Outcome.TheVariants.{NoMajority};
 ghost use Rattle.store_api.specs.Rows.{has_key};
 ghost use Rattle.node_core.specs.declared.journal.Entry.{Entry};
 ghost use Rattle.world_core.specs.Run.{IsRun};
-ghost use Rattle.world_core.specs.Story.{Point, IsIn, points};
+ghost use Rattle.world_core.specs.Story.{Point, IsIn, points, answer};
 ghost use Rattle.world_core.specs.DonePoints.{IsDoneAt};
+ghost use Rattle.durability_laws.specs.Counted.{LacksMajority};
 ghost use Rattle.durability_laws.specs.Held.{holds};
 
 /// In every run, more than half of the voters of a key's shard hold each done operation's point on the key: their versions of
@@ -20,4 +24,11 @@ pub fn done_points_are_held()
     ensures lasts { (setup : SetupState) → IsSetup setup → (past : List Entry) → IsRun setup past
         → (later earlier : List Entry) → past ≡ later ++ earlier → (q : Point) → IsIn (points earlier) q
         → (node : ℕ) → holds setup earlier q node ≡ true → holds setup past q node ≡ true }
+{}
+
+/// In every run, "no majority" is answered only with counts that are none: twice the counted voters are at most all voters,
+/// or so it is with the temporary voters where these are set.
+pub fn give_ups_lack_a_majority()
+    ensures { (setup : SetupState) → IsSetup setup → (past : List Entry) → IsRun setup past
+        → (op : OpId) (counts : Counts) → answer past op ≡ Some (NoMajority counts) → LacksMajority counts }
 {}

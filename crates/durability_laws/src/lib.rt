@@ -1,9 +1,10 @@
 //! What an answer rests on: the voters that hold what was done.
 //!
 //! Above: nothing. Below: `world_core`.
-//! Promise: what is done is held by more than half of the voters of its shard, from the answer on.
+//! Promise: what is done is held by more than half of the voters of its shard, from the answer on; and what is answered to
+//! lack a majority lacks it.
 #![tactic(auto)]
 
-pub use laws::done_points_are_held;
+pub use laws::{done_points_are_held, give_ups_lack_a_majority};
 
 pub mod laws;
