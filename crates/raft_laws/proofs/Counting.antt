@@ -14,7 +14,7 @@ use Rattle.raft_node.specs.Rows.{advanced}
 use Rattle.raft_laws.specs.World.{kept}
 use Rattle.raft_laws.proofs.Past.{Past}
 use Rattle.raft_laws.proofs.Claims.{Certified}
-use Rattle.raft_laws.proofs.Nodes.{NodeOk}
+use Rattle.raft_laws.proofs.Nodes.{Knows, NodeOk}
 use Rattle.raft_laws.proofs.Moves.{sees, learns}
 use Rattle.raft_laws.proofs.Leading.{leads_of, of_leads}
 
@@ -113,7 +113,7 @@ module _ {E : Type 0} (nodes : List ℕ) (p : Past E) (n : ℕ) (s : RaftState E
               (λ e.
               let same : n ≡ k = ap (λ (m : NodeId). m.0) (sym o.me) ∙ sym (eqb-true k s.votes.me.0 e) in
               subst (λ (v : ℕ). length s.log ≤ p.acks v s.votes.term) same l.mine)
-              (λ _. l.matched k) in
+              (λ _. (l.knows k).matched) in
               omega (arith, pass, known);
         };
         same = refl;
@@ -137,18 +137,25 @@ module _ {E : Type 0} (nodes : List ℕ) (p : Past E) (n : ℕ) (s : RaftState E
 
 -- ---- what a leader is told
 
-set_matched : (peers : List Progress) (f k : ℕ) (x : Progress) (bound : ℕ) → (progress_at peers k).matched ≤ bound → (k ≡ f → x.matched ≤ bound) → (progress_at (slice_set peers f x) k).matched ≤ bound
-set_matched [] f k x bound h g = h
-set_matched (y ∷ ys) zero zero x bound h g = g refl
-set_matched (y ∷ ys) zero (suc k) x bound h g = h
-set_matched (y ∷ ys) (suc f) zero x bound h g = h
-set_matched (y ∷ ys) (suc f) (suc k) x bound h g = set_matched ys f k x bound h (λ e. g (ap suc e))
+set_knows : (said last : ℕ) (peers : List Progress) (f k : ℕ) (x : Progress) → Knows said last (progress_at peers k) → (k ≡ f → Knows said last x) → Knows said last (progress_at (slice_set peers f x) k)
+set_knows said last [] f k x h g = h
+set_knows said last (y ∷ ys) zero zero x h g = g refl
+set_knows said last (y ∷ ys) zero (suc k) x h g = h
+set_knows said last (y ∷ ys) (suc f) zero x h g = h
+set_knows said last (y ∷ ys) (suc f) (suc k) x h g = set_knows said last ys f k x h (λ e. g (ap suc e))
 
-progressed_matched : (p : Progress) (last : ℕ) (ok : Bool) (upto bound : ℕ) → p.matched ≤ bound → (ok ≡ true → upto ≤ bound) → (progressed p last ok upto).matched ≤ bound
-progressed_matched p last true upto bound h g =
+progressed_knows : (said last : ℕ) (p : Progress) (ok : Bool) (upto : ℕ) → Knows said last p → (ok ≡ true → upto ≤ said) → Knows said last (progressed p last ok upto)
+progressed_knows said last p true upto h g =
     let l = g refl in
-    cond_both (nat_le upto last) (record { matched = max p.matched upto; next = max p.next (max p.matched upto + 1) }) p (λ (x : Progress). x.matched ≤ bound) (λ _. omega (arith, h, l)) (λ _. h)
-progressed_matched p last false upto bound h g = h
+    let m = h.matched in
+    let w = h.within in
+    let n = h.next in
+    cond_both (nat_le upto last) (record { matched = max p.matched upto; next = max p.next (max p.matched upto + 1) }) p (Knows said last)
+    (λ e. let low = leb-true upto last e in record { matched = omega (arith, m, l); within = omega (arith, w, low); next = omega (arith, n, w, low) })
+    (λ _. h)
+progressed_knows said last p false upto h g =
+    let n = h.next in
+    record { matched = h.matched; within = h.within; next = omega (arith, n) }
 
 module _ {E : Type 0} (nodes : List ℕ) (p : Past E) (n : ℕ) (s : RaftState E) (o : NodeOk nodes p n s) where
   pub hears : is_leader s.votes.role ≡ true → (from : NodeId) (ok : Bool) (upto : ℕ) → (ok ≡ true → upto ≤ p.acks from.0 s.votes.term)
@@ -161,10 +168,11 @@ module _ {E : Type 0} (nodes : List ℕ) (p : Past E) (n : ℕ) (s : RaftState E
         won = l.won;
         is = l.is;
         mine = l.mine;
-        matched = λ k.
-            set_matched s.peers from.0 k (progressed (progress_at s.peers from.0) (length s.log) ok upto) (p.acks k s.votes.term) (l.matched k)
-            (λ e. subst (λ (v : ℕ). (progressed (progress_at s.peers from.0) (length s.log) ok upto).matched ≤ p.acks v s.votes.term) (sym e)
-            (progressed_matched (progress_at s.peers from.0) (length s.log) ok upto (p.acks from.0 s.votes.term) (l.matched from.0) said));
+        knows = λ k.
+            let told = progressed (progress_at s.peers from.0) (length s.log) ok upto in
+            set_knows (p.acks k s.votes.term) (length s.log) s.peers from.0 k told (l.knows k)
+            (λ e. subst (λ (v : ℕ). Knows (p.acks v s.votes.term) (length s.log) told) (sym e)
+            (progressed_knows (p.acks from.0 s.votes.term) (length s.log) (progress_at s.peers from.0) ok upto (l.knows from.0) said));
       }))
 
 -- a crash, and a restart

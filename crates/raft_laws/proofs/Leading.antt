@@ -17,7 +17,7 @@ use Rattle.raft_laws.specs.World.{Sent, World}
 use Rattle.raft_laws.proofs.Logs.{same_terms, as_long, front_of, Rises, Rises-push, IsUpTo-push}
 use Rattle.raft_laws.proofs.Past.{Past, Ballot, Reign, Grounded, Grounded-grows, Grounded-push, one_reign}
 use Rattle.raft_laws.proofs.Claims.{Holds, Holds-grows, Certified-grows, Certified-other, Certified-within, ReignOk, ReignOk-grows, PastOk}
-use Rattle.raft_laws.proofs.Nodes.{RoleOk, Stands, Leads, Beside-more, is_candidate, Here, Comes, moves}
+use Rattle.raft_laws.proofs.Nodes.{RoleOk, Stands, Knows, Knows-more, Leads, Beside-more, is_candidate, Here, Comes, moves}
 use Rattle.raft_laws.proofs.Ghosts.{with_reign, with_reign-at, with_reign-term, with_reign-beside, with_reign-past, IsLonger, with_ack, with_ack-at, with_ack-term, with_ack-beside, with_ack-past}
 use Rattle.raft_laws.proofs.Moves.{Holds-more}
 
@@ -26,13 +26,13 @@ none_if None f = refl
 none_if (Some y) f = absurd (f y refl)
 
 -- nothing is known of a node that is not in the list, nor at the start
-fresh_matched : (next n k : ℕ) → (progress_at (replicate n (fresh next)) k).matched ≡ 0
-fresh_matched next zero k = refl
-fresh_matched next (suc n) zero = refl
-fresh_matched next (suc n) (suc k) = fresh_matched next n k
+fresh_knows : (said last n k : ℕ) → Knows said last (progress_at (replicate n (fresh (last + 1))) k)
+fresh_knows said last zero k = record { matched = omega arith; within = omega arith; next = omega arith }
+fresh_knows said last (suc n) zero = record { matched = omega arith; within = omega arith; next = omega arith }
+fresh_knows said last (suc n) (suc k) = fresh_knows said last n k
 
-pub reset_matched : (next k : ℕ) (peers : List Progress) → (progress_at (reset_to next peers) k).matched ≡ 0
-reset_matched next k peers = fresh_matched next (length peers) k
+reset_knows : (said last k : ℕ) (peers : List Progress) → Knows said last (progress_at (reset_to (last + 1) peers) k)
+reset_knows said last k peers = fresh_knows said last (length peers) k
 
 -- the terms of a log that is grounded do not fall
 pub grounded_rises : {E : Type 0} (nodes : List ℕ) (p : Past E) → PastOk nodes p → (log : List (LogEntry E)) → Grounded p log → Rises log
@@ -74,9 +74,9 @@ module _ {E : Type 0} (nodes : List ℕ) (w : World E) (n : ℕ) (p : Past E) (s
         | inr at ↦ both_ways (is_candidate s.votes.role) at.1 cand
       ])
 
-  pub wins_term : (votes : List ℕ) → Stands p n s.votes.term s.log votes → is_candidate s.votes.role ≡ true → is_majority votes nodes ≡ true → (leader : Option NodeId) (next : ℕ)
-      → Comes nodes w n p (record s { votes = record s.votes { role = Leader; leader = leader }; peers = reset_to next s.peers }) xs
-  wins_term votes st cand most leader next =
+  pub wins_term : (votes : List ℕ) → Stands p n s.votes.term s.log votes → is_candidate s.votes.role ≡ true → is_majority votes nodes ≡ true → (leader : Option NodeId)
+      → Comes nodes w n p (record s { votes = record s.votes { role = Leader; leader = leader }; peers = reset_to (length s.log + 1) s.peers }) xs
+  wins_term votes st cand most leader =
       let o = here.self in
       let t = s.votes.term in
       let none = first votes st cand most in
@@ -119,13 +119,13 @@ module _ {E : Type 0} (nodes : List ℕ) (w : World E) (n : ℕ) (p : Past E) (s
         | inr zero_at ↦ omega (arith, zero_at)
       ] in
       let both = Beside-more n p q u beside beside2 in
-      moves nodes w n p u s (record s { votes = record s.votes { role = Leader; leader = leader }; peers = reset_to next s.peers }) xs both ok2
+      moves nodes w n p u s (record s { votes = record s.votes { role = Leader; leader = leader }; peers = reset_to (length s.log + 1) s.peers }) xs both ok2
       (record {
         me = o.me;
         all = o.all;
         now = o.now;
         later = o.later;
-        role = record { won = s.log; is = at; mine = omega (arith, acked_now, no_ack); matched = λ k. let e = reset_matched next k s.peers in omega (arith, e) };
+        role = record { won = s.log; is = at; mine = omega (arith, acked_now, no_ack); knows = λ k. reset_knows (u.acks k t) (length s.log) k s.peers };
         grounded = Grounded-grows p u s.log both.grows o.grounded;
         upto = o.upto;
         led = λ x y e l.
@@ -226,7 +226,7 @@ module _ {E : Type 0} (nodes : List ℕ) (w : World E) (n : ℕ) (p : Past E) (s
         now = o.now;
         later = o.later;
         role = of_leads u n s.votes.role t log s.peers leading
-            (record { won = l.won; is = at; mine = omega (arith, acked_now); matched = λ k. let m = l.matched k in let a = acks_grow k t in omega (arith, m, a) });
+            (record { won = l.won; is = at; mine = omega (arith, acked_now); knows = λ k. Knows-more (p.acks k t) (length s.log) (u.acks k t) (length log) (progress_at s.peers k) (acks_grow k t) (omega (arith, long)) (l.knows k) });
         grounded = Grounded-grows q u log beside2.grows grounded;
         upto = IsUpTo-push s.log x o.upto;
         led = λ v y e own.

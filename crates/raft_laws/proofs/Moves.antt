@@ -9,12 +9,13 @@ use Rattle.raft_vote.specs.declared.votes.Role.TheVariants.{Follower, Candidate,
 use Rattle.raft_vote.specs.Log.{term_at, last_term}
 use Rattle.raft_vote.specs.Rows.{alone, reaches}
 use Rattle.raft_append.specs.declared.peers.Progress.{Progress}
+use Rattle.raft_append.specs.Peers.{progress_at}
 use Rattle.raft_node.specs.State.{RaftState}
 use Rattle.raft_laws.specs.World.{Sent, World}
 use Rattle.raft_laws.proofs.Logs.{as_long, front_of, IsUpTo-more}
 use Rattle.raft_laws.proofs.Past.{Past, Ballot, Reign, Grows, Grounded-grows, for_whom}
 use Rattle.raft_laws.proofs.Claims.{Holds, Holds-grows, Certified, Certified-grows, Certified-other, Rival, BallotOk, PastOk}
-use Rattle.raft_laws.proofs.Nodes.{NodeOk, RoleOk, Stands-grows, AckOk, is_candidate, Here, Comes, moves}
+use Rattle.raft_laws.proofs.Nodes.{NodeOk, RoleOk, Stands-grows, AckOk, is_candidate, Here, Comes, moves, Knows-more}
 use Rattle.raft_laws.proofs.Ghosts.{with_ballot, with_ballot-at, with_ballot-term, with_ballot-beside, with_ballot-past}
 
 -- ---- what the past is not concerned with
@@ -116,7 +117,7 @@ RoleOk-grows nodes p q g n same Leader term log peers o =
       won = o.won;
       is = same term ∙ o.is;
       mine = let a = g.acks n term in let m = o.mine in omega (arith, a, m);
-      matched = λ j. let a = g.acks j term in let m = o.matched j in omega (arith, a, m);
+      knows = λ j. Knows-more (p.acks j term) (length log) (q.acks j term) (length log) (progress_at peers j) (g.acks j term) (omega arith) (o.knows j);
     }
 
 -- the term from which on no leader had changed the log of a node that votes in this one

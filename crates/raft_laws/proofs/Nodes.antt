@@ -31,12 +31,27 @@ pub record Stands {E : Type 0} (p : Past E) (n term : ℕ) (log : List (LogEntry
   pub own : p.ballots n term ≡ Some (record { for_node = node_id n; log = log; bound = bound })
   pub below : (i : ℕ) → i ≤ length log → term_at log i < term
 
+-- what a leader knows of a node: no more than the node said, and the entry that it is sent next is one of the leader's
+-- log, or the one behind its end
+pub record Knows (said last : ℕ) (x : Progress) : Type 0 where
+  pub matched : x.matched ≤ said
+  pub within : x.matched ≤ last
+  pub next : x.next ≤ suc last
+
+-- with more said, and a longer log
+pub Knows-more : (said last more longer : ℕ) (x : Progress) → said ≤ more → last ≤ longer → Knows said last x → Knows more longer x
+Knows-more said last more longer x a b k =
+    let m = k.matched in
+    let w = k.within in
+    let n = k.next in
+    record { matched = omega (arith, m, a); within = omega (arith, w, b); next = omega (arith, n, b) }
+
 -- a leader: its log is that of the term, and it knows of each node no more than that node said
 pub record Leads {E : Type 0} (p : Past E) (n term : ℕ) (log : List (LogEntry E)) (peers : List Progress) : Type 0 where
   pub won : List (LogEntry E)
   pub is : p.reigns term ≡ Some (record { leader = n; won = won; log = log })
   pub mine : length log ≤ p.acks n term
-  pub matched : (k : ℕ) → (progress_at peers k).matched ≤ p.acks k term
+  pub knows : (k : ℕ) → Knows (p.acks k term) (length log) (progress_at peers k)
 
 abbrev pub RoleOk : {E : Type 0} → Past E → ℕ → Role → ℕ → List (LogEntry E) → List Progress → Type 0
 RoleOk p n Follower term log peers = Unit {0}
@@ -153,7 +168,7 @@ module _ {E : Type 0} (nodes : List ℕ) (n : ℕ) (p q : Past E) (b : Beside n 
           | inr own ↦ absurd (both_ways (k == n) other (eq-eqb k n own))
         ];
         mine = let a = b.grows.acks k term in let m = l.mine in omega (arith, a, m);
-        matched = λ j. let a = b.grows.acks j term in let m = l.matched j in omega (arith, a, m);
+        knows = λ j. Knows-more (p.acks j term) (length log) (q.acks j term) (length log) (progress_at peers j) (b.grows.acks j term) (omega arith) (l.knows j);
       }
 
   RoleOk-beside : (r : Role) (term : ℕ) (log : List (LogEntry E)) (peers : List Progress) → RoleOk p k r term log peers → RoleOk q k r term log peers

@@ -1,7 +1,7 @@
 -- What each row of a step keeps.
-use Rattle.std.proofs.Common.{◌≡◌, ◌==◌, ◌&&◌, ℕ, ◌≤◌, ◌+◌, ◌-◌, min, max, nat_lt, not, Bool, true, false, ◌⊎◌, inl, inr, List, [], ◌∷◌, ◌++◌, length, map, take, drop, Option, Some, None, refl, sym, ap, subst, ◌∙◌, arith, append-nil, append_assoc, slice_set}
+use Rattle.std.proofs.Common.{◌≡◌, ◌==◌, ◌&&◌, ℕ, ◌≤◌, ◌+◌, ◌-◌, min, max, nat_lt, not, Bool, true, false, ◌⊎◌, inl, inr, List, [], ◌∷◌, ◌++◌, length, map, take, drop, Option, Some, None, refl, sym, ap, subst, ◌∙◌, arith, append-nil, append_assoc, length-take, slice_set}
 use Rattle.std.proofs.lemmas.Bool.{cond_both, eqb-true, and_parts, and_right, and_left, or_cases, ltb-true, ltb-false, both_ways, false≢true}
-use Rattle.std.proofs.lemmas.List.{take_all}
+use Rattle.std.proofs.lemmas.List.{take_all, take-take, drop-take}
 use Rattle.std.specs.List.{AllByRecursion}
 use Rattle.region_map.specs.declared.id.NodeId.{NodeId}
 use Rattle.region_map.specs.Nodes.{has, node_id, is_majority, with_member, without}
@@ -19,8 +19,9 @@ use Rattle.raft_append.specs.Peers.{progress_at, progressed, reset_to}
 use Rattle.raft_node.specs.declared.input.RaftInput.{RaftInput}
 use Rattle.raft_node.specs.declared.input.RaftInput.TheVariants.{Tick, Deliver}
 use Rattle.raft_node.specs.State.{RaftState}
-use Rattle.raft_node.specs.Rows.{RaftStepped, is_full, append_to, append_all, with_entry, won, elected, elect_row, tick_row, ask_row, vote_row, answered, append_row, say_row, deliver_row, input_row, advanced, raft_step, proposed}
+use Rattle.raft_node.specs.Rows.{RaftStepped, is_full, entries_limit, prev_for, append_to, append_all, with_entry, won, elected, elect_row, tick_row, ask_row, vote_row, answered, append_row, say_row, deliver_row, input_row, advanced, raft_step, proposed}
 use Rattle.raft_laws.specs.World.{Sent, World, posted}
+use Rattle.raft_laws.proofs.Logs.{term_at-take}
 use Rattle.raft_laws.proofs.Past.{Past, Ballot, Cast, Cast-grows, Grows, for_whom}
 use Rattle.raft_laws.proofs.Nodes.{NodeOk, RoleOk, Stands, Asked, Shipped, IsSo, IsSo-grows, is_candidate, Comes, go_on, goes_to, sends}
 use Rattle.raft_laws.proofs.Moves.{takes_term, turns, votes_for, stands}
@@ -159,14 +160,22 @@ module _ {E : Type 0} (nodes : List ℕ) (w : World E) (n : ℕ) (p : Past E) (x
   shipped_all : (s : RaftState E) → is_leader s.votes.role ≡ true → (q : Past E) → NodeOk nodes q n s → (to : NodeId) → IsSo nodes q (node_id n) to (append_to s to)
   shipped_all s leading q o to =
       let l = leads_of q n s.votes.role s.votes.term s.log s.peers leading o.role in
+      let prev = prev_for s to in
+      let next = (l.knows to.0).next in
+      let low : prev ≤ length s.log = omega (arith, next) in
+      let end = prev + entries_limit in
+      let front = take end s.log in
+      let size : length front ≡ min end (length s.log) = length-take end s.log in
+      let short : length front ≤ end = omega (arith, size) in
+      let long : prev ≤ length front = omega (arith, low, size) in
       record {
         reign = record { leader = n; won = l.won; log = s.log };
         is = l.is;
-        log = s.log;
-        front = take_all (length s.log) s.log (omega arith);
-        within = omega arith;
-        term_is = refl;
-        rest = refl;
+        log = front;
+        front = sym (take-take (length front) end s.log short) ∙ take_all (length front) front (omega arith);
+        within = long;
+        term_is = sym (term_at-take end prev s.log (omega arith));
+        rest = sym (drop-take prev entries_limit s.log);
         seen = o.seen;
       }
 
@@ -188,7 +197,7 @@ module _ {E : Type 0} (nodes : List ℕ) (w : World E) (n : ℕ) (p : Past E) (x
       go_on nodes w n p before t ys ys r.comes
       (λ q g h.
       let st : Stands q n r.before.term s.log r.granted = subst (λ (x : Role). RoleOk q n x r.before.term s.log s.peers) r.stood h.self.role in
-      wins_term nodes w n q before ys h r.granted st (ap is_candidate r.stood) r.most (Some r.before.me) (length s.log + 1)) in
+      wins_term nodes w n q before ys h r.granted st (ap is_candidate r.stood) r.most (Some r.before.me)) in
       let done : Comes nodes w n p (won noop (record s { votes = after })) ys =
       cond_both (is_full s.log) t (with_entry t noop) (λ (x : RaftState E). Comes nodes w n p x ys)
       (λ _. led)

@@ -18,7 +18,7 @@ use Rattle.raft_append.specs.Peers.{progress_at, progressed, reset_to}
 use Rattle.raft_node.specs.declared.input.RaftInput.{RaftInput}
 use Rattle.raft_node.specs.declared.input.RaftInput.TheVariants.{Tick as InputTick, Deliver as InputDeliver}
 use Rattle.raft_node.specs.State.{RaftState}
-use Rattle.raft_node.specs.Rows.{RaftStepped, is_full, prev_for, append_to, append_all, with_entry, won, elected, tick_row, answered, deliver_row, input_row, advanced, raft_step, proposed, ends_numbers}
+use Rattle.raft_node.specs.Rows.{RaftStepped, is_full, entries_limit, prev_for, append_to, append_all, with_entry, won, elected, tick_row, answered, deliver_row, input_row, advanced, raft_step, proposed, ends_numbers}
 use Rattle.schedule_laws.specs.Schedules.{set_at}
 use Rattle.schedule_laws.proofs.Lists.{All-append, All-weaker, All-map, All-map_of, All-at}
 use Rattle.schedule_laws.proofs.Nodes.{set_at_both}
@@ -86,7 +86,7 @@ module _ {E : Type 0} (from : ℕ → LogEntry E → Type 0) where
     pub sent : Carried r.sent
 
   carried_all : (s : RaftState E) → EachFrom from 0 s.log → Carried (append_all s)
-  carried_all s h = All-map_of (λ (x : NodeId × RaftMessage E). CarriesFrom from x.1) (λ (n : NodeId). (n, append_to s n)) (map node_id (others s.votes)) (λ n. each-behind (prev_for s n) s.log h)
+  carried_all s h = All-map_of (λ (x : NodeId × RaftMessage E). CarriesFrom from x.1) (λ (n : NodeId). (n, append_to s n)) (map node_id (others s.votes)) (λ n. each-take entries_limit (prev_for s n) (drop (prev_for s n) s.log) (each-behind (prev_for s n) s.log h))
 
   carried_asks : (term last index : ℕ) (to : List ℕ) → Carried (asks term last index to)
   carried_asks term last index to = All-map_of (λ (x : NodeId × RaftMessage E). CarriesFrom from x.1) (λ (n : NodeId). (n, VoteAsk term last index)) (map node_id to) (λ n. tt)

@@ -86,7 +86,8 @@ fn one_node_commits_alone(rt: HostRuntime) -> Result<(), Fail> {
     Ok(())
 }
 
-/// Node 0 leads and commits an entry, and fails; node 1 leads then, and old messages come late.
+/// Node 0 leads and commits an entry, and fails; node 1 leads then, and sends node 2 what it lacks once that refused. Old
+/// messages come late.
 #[test]
 fn late_messages_change_nothing(rt: HostRuntime) -> Result<(), Fail> {
     let alloc = rt.alloc();
@@ -101,16 +102,19 @@ fn late_messages_change_nothing(rt: HostRuntime) -> Result<(), Fail> {
         (2, Step::Deliver(8), 0),
         (1, Step::Deliver(9), 0),
         (2, Step::Deliver(11), 0),
-        (1, Step::Deliver(12), 2),
+        (1, Step::Deliver(12), 0),
+        (1, Step::Tick, 0),
+        (2, Step::Deliver(14), 0),
+        (1, Step::Deliver(15), 2),
         (2, Step::Deliver(5), 0),
         (1, Step::Deliver(4), 2),
         (1, Step::Tick, 2),
-        (2, Step::Deliver(16), 2),
+        (2, Step::Deliver(19), 2),
         (0, Step::Restart, 1),
         (0, Step::Deliver(3), 1),
         (0, Step::Deliver(6), 1),
-        (0, Step::Deliver(13), 1),
-        (0, Step::Deliver(15), 2),
+        (0, Step::Deliver(16), 1),
+        (0, Step::Deliver(18), 2),
     ];
     let mut world = RaftWorld::begin(alloc, 3)?;
     for (at, step, committed) in rows {
@@ -120,8 +124,8 @@ fn late_messages_change_nothing(rt: HostRuntime) -> Result<(), Fail> {
     Ok(())
 }
 
-/// Node 0 fills its log in its term, and fails. Node 1 has that log and leads next, without room for an entry of its own
-/// term: that a majority has the entries of the older term does not commit them.
+/// Node 0 fills its log in its term, commits half of it, and fails. Node 1 has that log and leads next, without room for an
+/// entry of its own term: that a majority has the other half, of the older term, does not commit it.
 #[test]
 fn an_older_term_is_not_committed_by_counts(rt: HostRuntime) -> Result<(), Fail> {
     let alloc = rt.alloc();
@@ -139,18 +143,27 @@ fn an_older_term_is_not_committed_by_counts(rt: HostRuntime) -> Result<(), Fail>
         assert!(rt; goes(alloc, &mut world, 0, Step::Propose, Ok(()), 0));
     }
     let rows = [
-        (0, Step::Tick),
-        (1, Step::Deliver(6)),
-        (0, Step::Crash),
-        (1, Step::Tick),
-        (2, Step::Deliver(10)),
-        (1, Step::Deliver(11)),
-        (2, Step::Deliver(13)),
-        (1, Step::Deliver(14)),
+        (0, Step::Tick, 0),
+        (1, Step::Deliver(6), 0),
+        (0, Step::Deliver(8), 64),
+        (0, Step::Tick, 64),
+        (1, Step::Deliver(9), 64),
+        (0, Step::Crash, 64),
+        (1, Step::Tick, 64),
+        (2, Step::Deliver(13), 0),
+        (1, Step::Deliver(14), 64),
+        (2, Step::Deliver(16), 0),
+        (1, Step::Deliver(17), 64),
+        (1, Step::Tick, 64),
+        (2, Step::Deliver(19), 64),
+        (1, Step::Deliver(20), 64),
+        (1, Step::Tick, 64),
+        (2, Step::Deliver(22), 64),
+        (1, Step::Deliver(23), 64),
     ];
-    for (at, step) in rows {
+    for (at, step, committed) in rows {
         assert!(rt; world.nodes() == 3 && at < 3);
-        assert!(rt; goes(alloc, &mut world, at, step, Ok(()), 0));
+        assert!(rt; goes(alloc, &mut world, at, step, Ok(()), committed));
     }
     Ok(())
 }

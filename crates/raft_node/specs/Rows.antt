@@ -1,5 +1,5 @@
 -- One step of a node of the log, row by row. `noop` is the change that does nothing.
-use Rattle.std.specs.Prelude.{ℕ, ◌+◌, ◌^◌, ◌==◌, max, nat_lt, nat_le, Bool, true, false, not, ◌&&◌, ◌||◌, if◌then◌else◌, List, [], ◌∷◌, ◌++◌, map, length, drop, slice_set}
+use Rattle.std.specs.Prelude.{ℕ, ◌+◌, ◌-◌, ◌^◌, ◌==◌, max, nat_lt, nat_le, Bool, true, false, not, ◌&&◌, ◌||◌, if◌then◌else◌, List, [], ◌∷◌, ◌++◌, map, length, take, drop, slice_set}
 use Rattle.region_map.specs.declared.id.NodeId.{NodeId}
 use Rattle.region_map.specs.Nodes.{node_id}
 use Rattle.raft_vote.specs.declared.log.LogEntry.{LogEntry}
@@ -29,12 +29,18 @@ pub record RaftStepped (E : Type 0) : Type 0 where
 
 -- ---- appends that a leader sends
 
--- behind which index the entries stand that a node is sent: it is sent the whole log
+-- how many entries one message carries at most
+abbrev pub entries_limit : ℕ
+entries_limit = 64
+
+-- behind which index the entries stand that a node is sent: the one before its next
 abbrev pub prev_for : {E : Type 0} → RaftState E → NodeId → ℕ
-prev_for s to = 0
+prev_for s to = (progress_at s.peers to.0).next - 1
 
 abbrev pub append_to : {E : Type 0} → RaftState E → NodeId → RaftMessage E
-append_to s to = let prev = prev_for s to in Append s.votes.term prev (term_at s.log prev) (drop prev s.log) s.view
+append_to s to =
+    let prev = prev_for s to in
+    Append s.votes.term prev (term_at s.log prev) (take entries_limit (drop prev s.log)) s.view
 
 abbrev pub append_all : {E : Type 0} → RaftState E → List (NodeId × RaftMessage E)
 append_all s = map (λ n. (n, append_to s n)) (map node_id (others s.votes))
@@ -69,7 +75,7 @@ elect_row noop s unseen =
     let r = vote_tick s.votes unseen in
     elected noop s r.node (asks r.node.term (last_term s.log) (length s.log) r.asked)
 
--- a leader sends its log
+-- a leader sends each other node the entries that come next there
 abbrev pub tick_row : {E : Type 0} → E → RaftState E → List ℕ → RaftStepped E
 tick_row noop s unseen =
     if is_leader s.votes.role

@@ -22,6 +22,9 @@ use thiserror::Error;
 /// The number of entries at which a log takes no more from `propose`.
 pub const LOG_LIMIT: u64 = 128;
 
+/// How many entries one message carries at most: a node that lacks more takes several.
+const ENTRIES_LIMIT: u64 = 64;
+
 /// Why a change was not appended. The node is as it was.
 #[derive(Debug, Drop, Error)]
 pub enum ProposeRefused<E> {
@@ -235,16 +238,16 @@ impl<E: RaftEntry> RaftNode<E> {
 
     // ---- what a leader sends
 
-    /// The whole log, for any node: the entries behind index 0.
-    fn append_to(&self, alloc: Global, _to: NodeId) -> Result<RaftMessage<E>, OutOfMemory>
-        ensures { IfOk result (λ message. message ≡ append_to self.now _to) }
+    /// The entries that come next at a node, as far as one message carries them.
+    fn append_to(&self, alloc: Global, to: NodeId) -> Result<RaftMessage<E>, OutOfMemory>
+        ensures { IfOk result (λ message. message ≡ append_to self.now to) }
     {
-        let prev_index = 0;
+        let prev_index = self.peers.get(to).next.saturating_sub(1);
         Ok(RaftMessage::Append {
             term: self.votes.term(),
             prev_index,
             prev_term: self.log.term_at(prev_index),
-            entries: self.log.copy_behind(alloc, prev_index)?,
+            entries: self.log.copy_behind(alloc, prev_index, ENTRIES_LIMIT)?,
             commit: self.view,
         })
     }

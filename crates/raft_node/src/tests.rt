@@ -219,3 +219,40 @@ fn a_follower_takes_what_fits(rt: HostRuntime) -> Result<(), Fail> {
     assert_eq!(rt; second.vote(), None);
     Ok(())
 }
+
+/// Takes an Append from node 0, and gives what it answers.
+fn append_to(
+    alloc: Global,
+    second: &mut RaftNode<Set>,
+    mut sent: Vec<(NodeId, RaftMessage<Set>)>,
+) -> Result<Option<RaftMessage<Set>>, StepRefused> {
+    let Some((_, append)) = sent.pop() else {
+        return Ok(None);
+    };
+    let mut answers = give(alloc, second, 0, append)?;
+    Ok(answers.pop().map(|(_, answer)| answer))
+}
+
+/// A follower without a log takes one of 71 entries in three ticks: it refuses, and is sent from the front then, by parts.
+#[test]
+fn a_follower_that_is_behind_takes_the_log_by_parts(rt: HostRuntime) -> Result<(), Fail> {
+    let alloc = rt.alloc();
+    let mut first = node(alloc, 0, 2, 1, &[1; 70])?;
+    let mut second = node(alloc, 1, 2, 0, &[])?;
+    let _asks = tick(alloc, &mut first)?;
+    let granted = RaftMessage::VoteSay {
+        term: 2,
+        granted: true,
+    };
+    let mut sent = give(alloc, &mut first, 1, granted)?;
+    // the length of the follower's log, and what the leader then acts on
+    for (length, committed) in [(0, 0), (64, 0), (71, 71)] {
+        if let Some(answer) = append_to(alloc, &mut second, sent)? {
+            let _none = give(alloc, &mut first, 1, answer)?;
+        }
+        assert_eq!(rt; second.log().len(), length);
+        assert_eq!(rt; first.committed(), committed);
+        sent = tick(alloc, &mut first)?;
+    }
+    Ok(())
+}

@@ -119,22 +119,16 @@ impl<E: RaftEntry> Log<E> {
     pub fn copy(&self, alloc: Global) -> Result<Log<E>, OutOfMemory>
         ensures { IfOk result (λ copy. copy ≡ self.now) }
     {
-        self.copy_behind(alloc, 0)
+        copy_of(alloc, &self.entries)
     }
 
-    /// The entries behind an index.
-    pub fn copy_behind(&self, alloc: Global, index: u64) -> Result<Log<E>, OutOfMemory>
-        ensures { IfOk result (λ copy. copy ≡ drop index self.now) }
+    /// The first `most` of the entries behind an index, and all of them where they are fewer.
+    pub fn copy_behind(&self, alloc: Global, index: u64, most: u64) -> Result<Log<E>, OutOfMemory>
+        ensures { IfOk result (λ copy. copy ≡ take most (drop index self.now)) }
     {
-        let mut entries = Vec::new(alloc);
-        for i in index as usize..self.entries.len() {
-            let entry = &self.entries[i];
-            entries.push(LogEntry {
-                term: entry.term,
-                change: entry.change.copy(alloc)?,
-            })?;
-        }
-        Ok(Log { entries })
+        let behind = self.entries.get(index as usize..).unwrap_or(&[]);
+        let part = behind.get(..most as usize).unwrap_or(behind);
+        copy_of(alloc, part)
     }
 
     /// Cuts the log behind an index, and puts the entries of another one there that stand behind
@@ -156,4 +150,18 @@ impl<E: RaftEntry> Log<E> {
         self.entries.append(&mut rest)?;
         Ok(())
     }
+}
+
+/// A log of these entries.
+fn copy_of<E: RaftEntry>(alloc: Global, entries: &[LogEntry<E>]) -> Result<Log<E>, OutOfMemory>
+    ensures { IfOk result (λ copy. copy ≡ entries.now) }
+{
+    let mut copies = Vec::new(alloc);
+    for entry in entries {
+        copies.push(LogEntry {
+            term: entry.term,
+            change: entry.change.copy(alloc)?,
+        })?;
+    }
+    Ok(Log { entries: copies })
 }

@@ -1,5 +1,5 @@
 -- A log whose changes fit sends changes that fit.
-use Rattle.std.proofs.Common.{◌≡◌, ◌∙◌, ◌&&◌, ℕ, ◌+◌, nat_lt, true, false, List, [], ◌∷◌, ◌++◌, length, map, refl, ap}
+use Rattle.std.proofs.Common.{◌≡◌, ◌∙◌, ◌&&◌, ℕ, ◌+◌, nat_lt, true, false, List, [], ◌∷◌, ◌++◌, length, map, take, drop, refl, ap}
 use Rattle.std.proofs.lemmas.Bool.{cond_both}
 use Rattle.std.proofs.lemmas.List.Folds.{list_all-append}
 use Rattle.region_map.specs.declared.id.NodeId.{NodeId}
@@ -14,7 +14,7 @@ use Rattle.raft_append.specs.Peers.{reset_to}
 use Rattle.raft_node.specs.declared.input.RaftInput.{RaftInput}
 use Rattle.raft_node.specs.declared.input.RaftInput.TheVariants.{Tick, Deliver}
 use Rattle.raft_node.specs.State.{RaftState}
-use Rattle.raft_node.specs.Rows.{RaftStepped, is_full, append_to, append_all, with_entry, won, elected, elect_row, answered, raft_step}
+use Rattle.raft_node.specs.Rows.{RaftStepped, is_full, entries_limit, prev_for, append_to, append_all, with_entry, won, elected, elect_row, answered, raft_step}
 use Rattle.contract_types.specs.declared.change.Change.{Change}
 use Rattle.contract_types.specs.declared.change.Change.TheVariants.{Noop}
 use Rattle.table_log.specs.Fitting.{fits, log_fits, message_fits, sent_fits}
@@ -31,10 +31,14 @@ module _ (hashes : ℕ) where
   asks_fit term last index [] = refl
   asks_fit term last index (n ∷ ns) = asks_fit term last index ns
 
+  -- the entries that a node is sent are a part of the log
+  part_fits : (s : RaftState Change) (n : NodeId) → log_fits hashes s.log ≡ true → log_fits hashes (take entries_limit (drop (prev_for s n) s.log)) ≡ true
+  part_fits s n own = (passes_cut (fits hashes) entries_limit (drop (prev_for s n) s.log) (passes_cut (fits hashes) (prev_for s n) s.log own).1).0
+
   appends_fit : (s : RaftState Change) → log_fits hashes s.log ≡ true → (to : List NodeId) → Sends (map (λ n. (n, append_to s n)) to)
   appends_fit s own [] = refl
   appends_fit s own (n ∷ ns) =
-      ap (λ v. v && sent_fits hashes (map (λ n. (n, append_to s n)) ns)) (passes_cut (fits hashes) 0 s.log own).1 ∙ appends_fit s own ns
+      ap (λ v. v && sent_fits hashes (map (λ n. (n, append_to s n)) ns)) (part_fits s n own) ∙ appends_fit s own ns
 
   all_fit : (s : RaftState Change) → log_fits hashes s.log ≡ true → Sends (append_all s)
   all_fit s own = appends_fit s own (map node_id (others s.votes))

@@ -16,7 +16,7 @@ use Rattle.raft_append.specs.Commit.{decided}
 use Rattle.raft_append.specs.Peers.{reset_to}
 use Rattle.raft_node.specs.declared.input.RaftInput.TheVariants.{Tick, Deliver}
 use Rattle.raft_node.specs.State.{RaftState}
-use Rattle.raft_node.specs.Rows.{RaftStepped, is_full, append_to, append_all, with_entry, won, elected, elect_row, tick_row, answered, append_row, say_row, deliver_row, advanced, raft_step, proposed}
+use Rattle.raft_node.specs.Rows.{RaftStepped, is_full, entries_limit, prev_for, append_to, append_all, with_entry, won, elected, elect_row, tick_row, answered, append_row, say_row, deliver_row, advanced, raft_step, proposed}
 use Rattle.world_core.proofs.PointBranches.{all_append}
 
 pub all_split : {A : Type 0} (P : A → Type 0) (xs ys : List A) → AllByRecursion P (xs ++ ys) → AllByRecursion P xs × AllByRecursion P ys
@@ -123,7 +123,7 @@ module _ {E : Type 0} (P : E → Type 0) where
 
   appends_carry : (s : RaftState E) → Each s.log → (to : List NodeId) → Sends (map (λ n. (n, append_to s n)) to)
   appends_carry s own [] = tt
-  appends_carry s own (n ∷ ns) = ((each_cut 0 s.log own).1, appends_carry s own ns)
+  appends_carry s own (n ∷ ns) = ((each_cut entries_limit (drop (prev_for s n) s.log) (each_cut (prev_for s n) s.log own).1).0, appends_carry s own ns)
 
   module _ (noop : E) (idle : P noop) (s : RaftState E) (own : Each s.log) where
     won_each : (votes : VoteState) → Each (won noop (record s { votes = votes })).log
