@@ -251,3 +251,19 @@ fn tells_the_story_of_one_key(rt: HostRuntime) -> Result<(), Fail> {
     }
     Ok(())
 }
+
+/// A journal takes 20,000 entries, and the event behind them meets the limit.
+#[test]
+fn ends_at_the_limit_of_entries(rt: HostRuntime) -> Result<(), Fail> {
+    let alloc = rt.alloc();
+    let mut script = Vec::from_slice(alloc, b"{\"do\":\"setup\",\"nodes\":1,\"hash\":1}\n")?;
+    for _ in 0..20_000 {
+        script.extend_from_slice(b"{\"do\":\"tick\",\"node\":0}\n")?;
+    }
+    let full: &[u8] = b"table nodes 1 hash 1 shards 1\nend\n";
+    expect(&rt, outcome(alloc, &script, 0, 0), full, 0)?;
+    script.extend_from_slice(b"{\"do\":\"tick\",\"node\":0}\n")?;
+    let over: &[u8] = b"table nodes 1 hash 1 shards 1\nlimit journal_entries 20000\n";
+    expect(&rt, outcome(alloc, &script, 0, 0), over, 6)?;
+    Ok(())
+}
