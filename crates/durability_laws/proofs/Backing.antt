@@ -1,5 +1,5 @@
 -- What the kept acks and the pending operations of executions rest on, and how the rows of a node keep it.
-use Rattle.std.proofs.Common.{◌≡◌, ◌⊎◌, ℕ, zero, suc, ◌+◌, ◌≤◌, true, false, nat_lt, List, [], ◌∷◌, ◌++◌, length, map, filter, Option, Some, None, slice_set, slice_index_or, inl, inr, refl, sym, ap, ◌∙◌, subst, arith}
+use Rattle.std.proofs.Common.{◌≡◌, ◌⊎◌, ℕ, zero, suc, ◌+◌, ◌≤◌, true, false, nat_lt, List, [], ◌∷◌, length, map, Option, Some, None, slice_set, slice_index_or, inl, inr, refl, sym, ap, ◌∙◌, subst, arith}
 use Rattle.std.proofs.Math.ListN.{length-set}
 use Rattle.std.proofs.lemmas.Bool.{cond_both, cases_eq, ltb-true, ltb-false}
 use Rattle.std.proofs.lemmas.List.{get_or-set_same}
@@ -23,8 +23,6 @@ use Rattle.exec_types.specs.declared.input.Input.TheVariants.{Request, GiveUp, S
 use Rattle.exec_types.specs.declared.message.Got.{Got}
 use Rattle.exec_types.specs.declared.message.Message.{Message as Sent}
 use Rattle.exec_types.specs.declared.message.Message.TheVariants as message
-use Rattle.exec_types.specs.declared.message.Part.{Part}
-use Rattle.exec_types.specs.declared.output.Output.TheVariants.{Dispatched}
 use Rattle.store_api.specs.Rows.{Rows, has_key, value_of}
 use Rattle.write_dispatch.specs.declared.decided.Decided.{Decided}
 use Rattle.write_dispatch.specs.declared.decided.KeptAck.{KeptAck}
@@ -32,18 +30,18 @@ use Rattle.write_dispatch.specs.Dispatch.{DispatchState, Acks, ack_of, exceeds, 
 use Rattle.write_dispatch.proofs.Later.{no_acks-none, with_ack-other}
 use Rattle.primary_exec.specs.declared.asking.Asking.{Asking}
 use Rattle.primary_exec.specs.declared.session.Session.{Session}
-use Rattle.primary_exec.specs.Execution.{Execution, has_room, sends, part_of, dispatch_row, started, is_live, with_acked, with_stands, got_row, decided, without_given_up, give_up_row}
+use Rattle.primary_exec.specs.Execution.{Execution, dispatch_row, started, is_live, with_acked, with_stands, got_row, decided, without_given_up, give_up_row}
 use Rattle.node_core.specs.declared.node.Brought.{Brought}
 use Rattle.node_core.specs.Parts.{Requested, is_for, dispatched, passed_on, request_all}
 use Rattle.node_core.specs.Starting.{Starting, due, start_one, start_each}
 use Rattle.node_core.specs.Step.{NodeState, Stepped, silent, leads, coordinates, propose_all, message_row, is_well_formed, brought_row, input_row, act_on}
-use Rattle.world_core.specs.Story.{Point, IsIn, points_in, points_of}
-use Rattle.world_core.proofs.KeyedStarts.{placed_all}
-use Rattle.world_core.proofs.LedHistories.{some_inner}
-use Rattle.world_core.proofs.Outs.{points_in-append, points_in-sends, undecided_keeps, without_op_keeps, all_push}
-use Rattle.world_core.proofs.PointBranches.{all_at, all_from}
-use Rattle.world_core.proofs.Requesting.{point_at}
-use Rattle.world_core.proofs.StoredSteps.{all_step}
+use Rattle.run_laws.specs.Story.{Point, IsIn, points_in, points_of}
+use Rattle.run_laws.proofs.KeyedStarts.{placed_all}
+use Rattle.run_laws.proofs.LedHistories.{some_inner}
+use Rattle.run_laws.proofs.Outs.{undecided_keeps, without_op_keeps, all_push}
+use Rattle.run_laws.proofs.PointBranches.{all_at, all_from}
+use Rattle.run_laws.proofs.Requesting.{point_at, dispatch_points}
+use Rattle.run_laws.proofs.StoredSteps.{all_step}
 
 -- ---- one more ack
 
@@ -152,14 +150,6 @@ module _ (hashes n : ℕ) (R : ℕ → List ℕ → Id → ℕ → Type 0) (W : 
   -- what is known of the operation of a new point
   abbrev pub News : List Point → Type 0
   News ps = (q : Point) → IsIn ps q → (region : Region) → has_key region hashes q.key ≡ true → (at : ℕ) → 1 ≤ at → W region q.op at
-
-  dispatch_points : (x : Execution) (rows : Rows) (versions : Pieced Version) (op : OpId) (key : List ℕ) (what : Op)
-      → points_in what (dispatch_row x rows versions op key what).outs ≡ point_at op key what x.branch (x.last + 1) ∷ []
-  dispatch_points x rows versions op key what =
-      let part : Part = part_of (value_of rows key) (x.last + 1) key what in
-      let sessions : List Session = filter has_room x.sessions in
-      points_in-append what (map (sends part) sessions) (Dispatched op key x.branch (x.last + 1) ∷ [])
-      ∙ ap (λ (l : List Point). l ++ point_at op key what x.branch (x.last + 1) ∷ []) (points_in-sends what part sessions)
 
   request_backed : (xs : List Execution) (rows : Rows) (versions : Pieced Version) (op : OpId) (key : List ℕ) (what : Op) → AllByRecursion B xs
       → News (points_in what (request_all hashes xs rows versions op key what).outs) → AllByRecursion B (request_all hashes xs rows versions op key what).executions

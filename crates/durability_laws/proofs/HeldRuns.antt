@@ -40,29 +40,29 @@ use Rattle.primary_exec.specs.Execution.{Execution, joined, begun, join_all, set
 use Rattle.node_core.specs.declared.node.Brought.{Brought}
 use Rattle.node_core.specs.declared.journal.Entry.{Entry}
 use Rattle.node_core.specs.Step.{NodeState, Stepped, is_led, executions_from, input_row, act, act_on, end_step}
-use Rattle.world_core.specs.declared.envelope.Envelope.{Envelope}
-use Rattle.world_core.specs.DonePoints.{IsDoneAt}
-use Rattle.world_core.specs.Run.{sent_by, sent, opened, brought, state, IsRun}
-use Rattle.world_core.specs.Story.{Point, IsIn, points, points_of, answer_in, or_else, answer}
-use Rattle.world_core.proofs.Begun.{begun_branch}
-use Rattle.world_core.proofs.Facts.{same_op-true, same_op-refl}
-use Rattle.world_core.proofs.KeyedFacts.{History-along}
-use Rattle.world_core.proofs.KeyedLaws.{keyed_facts}
-use Rattle.world_core.proofs.KeyedRoles.{led}
-use Rattle.world_core.proofs.LedHistories.{some_inner}
-use Rattle.world_core.proofs.LedKeys.{end_points}
-use Rattle.world_core.proofs.LedRoles.{IsLed, Roles, ends_kept, one_of_few}
-use Rattle.world_core.proofs.LedRows.{kept, lead_of, leads_of}
-use Rattle.world_core.proofs.LedRuns.{run_roles}
-use Rattle.world_core.proofs.LedShards.{holder_is, leads_in}
-use Rattle.world_core.proofs.LogWorldRuns.{moving}
-use Rattle.world_core.proofs.PointBranches.{all_at, all_from}
-use Rattle.world_core.proofs.Setups.{one_shard}
-use Rattle.world_core.proofs.StoredPaths.{same_id-true}
-use Rattle.world_core.proofs.StoredRuns.{run_kept}
-use Rattle.world_core.proofs.StoredSteps.{all_weaker, all_append, IsSessionOf, Runs, Follows}
-use Rattle.world_core.proofs.StoredSetups.{Away}
-use Rattle.world_core.proofs.Told.{IsIn-left, IsIn-right, point_times}
+use Rattle.run_laws.specs.declared.envelope.Envelope.{Envelope}
+use Rattle.run_laws.specs.DonePoints.{IsDoneAt}
+use Rattle.run_laws.specs.Run.{sent_by, sent, opened, brought, state, IsRun}
+use Rattle.run_laws.specs.Story.{Point, IsIn, points, points_of, answer_in, or_else, answer}
+use Rattle.run_laws.proofs.Begun.{begun_branch}
+use Rattle.run_laws.proofs.Facts.{same_op-true, same_op-refl}
+use Rattle.run_laws.proofs.KeyedFacts.{History-along}
+use Rattle.run_laws.proofs.KeyedLaws.{keyed_facts}
+use Rattle.run_laws.proofs.KeyedRoles.{led}
+use Rattle.run_laws.proofs.LedHistories.{some_inner}
+use Rattle.run_laws.proofs.EndPoints.{end_points_of}
+use Rattle.run_laws.proofs.LedRoles.{IsLed, Roles, ends_kept, one_of_few}
+use Rattle.run_laws.proofs.LedRows.{kept, lead_of, leads_of}
+use Rattle.run_laws.proofs.LedRuns.{run_roles}
+use Rattle.run_laws.proofs.LedShards.{holder_is, leads_in}
+use Rattle.run_laws.proofs.LogWorldRuns.{moving}
+use Rattle.run_laws.proofs.PointBranches.{all_at, all_from}
+use Rattle.run_laws.proofs.Setups.{one_shard}
+use Rattle.run_laws.proofs.StoredPaths.{same_id-true}
+use Rattle.run_laws.proofs.StoredRuns.{run_kept}
+use Rattle.run_laws.proofs.StoredSteps.{all_weaker, all_append, IsSessionOf, Runs, Follows}
+use Rattle.run_laws.proofs.StoredSetups.{Away}
+use Rattle.run_laws.proofs.Told.{IsIn-left, IsIn-right, point_times}
 use Rattle.durability_laws.specs.Held.{holds}
 use Rattle.durability_laws.proofs.Backing.{kept_cases, WaitsIn, Backed, backed_more, Brings, Ours, News, row_backed, act_backed, decide_backed}
 use Rattle.durability_laws.proofs.Holding.{led_holds, reached_holds}
@@ -326,7 +326,7 @@ module _ (setup : SetupState) (ok : IsSetup setup) (past : List Entry) (e : Entr
 
   news : News setup.hashes n (Reaches setup more) (HasPoint setup more) (points_of e.input step.outs)
   news q i region has at up =
-      let these : points_of e.input e.outputs ≡ points_of e.input step.outs = ap (points_of e.input) run.0.outputs ∙ end_points e.input step in
+      let these : points_of e.input e.outputs ≡ points_of e.input step.outs = ap (points_of e.input) run.0.outputs ∙ end_points_of e.input step in
       record {
         taken = q;
         is_in = IsIn-right (points past) (points_of e.input e.outputs) q (subst (λ (l : List Point). IsIn l q) (sym these) i);

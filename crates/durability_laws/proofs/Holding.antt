@@ -15,20 +15,20 @@ use Rattle.exec_types.specs.Sessions.{same_id}
 use Rattle.store_api.specs.Versions.{point, version_of}
 use Rattle.node_core.specs.declared.journal.Entry.{Entry}
 use Rattle.node_core.specs.Step.{NodeState}
-use Rattle.world_core.specs.Latest.{told_table}
-use Rattle.world_core.specs.Run.{state, IsRun}
-use Rattle.world_core.specs.Story.{Point, IsIn, points, points_of}
-use Rattle.world_core.proofs.Asked.{history_of}
-use Rattle.world_core.proofs.Begun.{begun_branch, is_branch}
-use Rattle.world_core.proofs.KeyedRequests.{same_key-self}
-use Rattle.world_core.proofs.KeyedRoles.{led}
-use Rattle.world_core.proofs.LedRuns.{is_history}
-use Rattle.world_core.proofs.OnPathTables.{tells}
-use Rattle.world_core.proofs.StoredFirsts.{on_begun, leading, leader_below, some_node, keyed_node}
-use Rattle.world_core.proofs.StoredPaths.{same_id-true, same_id-self}
-use Rattle.world_core.proofs.StoredRuns.{run_kept}
-use Rattle.world_core.proofs.StoredSetups.{Away}
-use Rattle.world_core.proofs.Told.{IsIn-left}
+use Rattle.run_laws.specs.Latest.{told_table}
+use Rattle.run_laws.specs.Run.{state, IsRun}
+use Rattle.run_laws.specs.Story.{Point, IsIn, points, points_of}
+use Rattle.run_laws.proofs.Asked.{history_of}
+use Rattle.run_laws.proofs.Begun.{begun_branch, is_branch}
+use Rattle.run_laws.proofs.KeyedRequests.{same_key-self}
+use Rattle.run_laws.proofs.KeyedRoles.{led}
+use Rattle.run_laws.proofs.LedRuns.{is_history}
+use Rattle.run_laws.proofs.OnPathTables.{tells}
+use Rattle.run_laws.proofs.StoredFirsts.{on_begun, leading, leader_below, some_node, keyed_node}
+use Rattle.run_laws.proofs.StoredPaths.{same_id-true, same_id-self}
+use Rattle.run_laws.proofs.StoredRuns.{run_kept}
+use Rattle.run_laws.proofs.StoredSetups.{Away}
+use Rattle.run_laws.proofs.Told.{IsIn-left}
 use Rattle.durability_laws.specs.Held.{has_on, holds}
 use Rattle.durability_laws.proofs.Reached.{Reaches, reaches_more}
 

@@ -7,9 +7,9 @@ use Rattle.register_laws.specs.declared.operation.OpId.{OpId}
 use Rattle.exec_types.specs.declared.outcome.Outcome.TheVariants.{NoMajority}
 use Rattle.write_dispatch.specs.Dispatch.{is_temp_majority}
 use Rattle.node_core.specs.declared.journal.Entry.{Entry}
-use Rattle.world_core.specs.Run.{IsRun}
-use Rattle.world_core.specs.Story.{answer}
-use Rattle.world_core.proofs.OnceGivenUp.{given_up_short}
+use Rattle.run_laws.specs.Run.{IsRun}
+use Rattle.run_laws.specs.Story.{answer}
+use Rattle.run_laws.proofs.OnceGivenUp.{given_up_short}
 use Rattle.durability_laws.specs.Counted.{LacksTemporary, LacksMajority}
 
 lacks_of : (v o : ℕ) (temp : Option (ℕ × ℕ)) → (nat_lt o (2 * v) && is_temp_majority temp) ≡ false → (2 * v ≤ o) ⊎ LacksTemporary temp

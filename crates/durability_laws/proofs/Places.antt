@@ -31,12 +31,12 @@ use Rattle.node_core.specs.declared.node.Brought.{Brought}
 use Rattle.node_core.specs.declared.journal.Entry.{Entry}
 use Rattle.node_core.specs.Parts.{Streamed, taken, left_alone, stream_all}
 use Rattle.node_core.specs.Step.{NodeState, Stepped, silent, is_followed, followings_from, leads, coordinates, propose_all, message_row, is_well_formed, brought_row, input_row, act_on}
-use Rattle.world_core.specs.Run.{brought, state}
-use Rattle.world_core.proofs.Begun.{begun_branch}
-use Rattle.world_core.proofs.LedHistories.{some_inner}
-use Rattle.world_core.proofs.LogWorldRuns.{moving}
-use Rattle.world_core.proofs.Outs.{stream_cases}
-use Rattle.world_core.proofs.StoredSteps.{all_weaker}
+use Rattle.run_laws.specs.Run.{brought, state}
+use Rattle.run_laws.proofs.Begun.{begun_branch}
+use Rattle.run_laws.proofs.LedHistories.{some_inner}
+use Rattle.run_laws.proofs.LogWorldRuns.{moving}
+use Rattle.run_laws.proofs.Outs.{stream_cases}
+use Rattle.run_laws.proofs.StoredSteps.{all_weaker}
 
 -- ---- places of shards
 

@@ -25,19 +25,19 @@ use Rattle.primary_exec.specs.Execution.{started_versions}
 use Rattle.node_core.specs.declared.journal.Entry.{Entry}
 use Rattle.node_core.specs.Starting.{Starting, due, start_one, start_each}
 use Rattle.node_core.specs.Step.{NodeState, Stepped, input_row, act_on}
-use Rattle.world_core.specs.Run.{brought, state, IsRun}
-use Rattle.world_core.specs.Story.{Point, IsIn, points_of}
-use Rattle.world_core.proofs.AskedRuns.{contracts_stay}
-use Rattle.world_core.proofs.Begun.{begun_branch}
-use Rattle.world_core.proofs.KeyedRoles.{asking_region, askings_led}
-use Rattle.world_core.proofs.KeyedRuns.{some_hash}
-use Rattle.world_core.proofs.KeyedStarts.{started_outside}
-use Rattle.world_core.proofs.LedRoles.{IsAsking, Roles, asked_from, roles_row, some_there}
-use Rattle.world_core.proofs.LedRows.{Kept, kept, Done, Still, Dispatches, Streams, GoesDown, ComesUp}
-use Rattle.world_core.proofs.LedRuns.{row_is, run_roles}
-use Rattle.world_core.proofs.LogWorldRuns.{moving}
-use Rattle.world_core.proofs.PointBranches.{all_at}
-use Rattle.world_core.proofs.StoredSetups.{Away}
+use Rattle.run_laws.specs.Run.{brought, state, IsRun}
+use Rattle.run_laws.specs.Story.{Point, IsIn, points_of}
+use Rattle.run_laws.proofs.AskedRuns.{contracts_stay}
+use Rattle.run_laws.proofs.Begun.{begun_branch}
+use Rattle.run_laws.proofs.KeyedRoles.{asking_region, askings_led}
+use Rattle.run_laws.proofs.KeyedRuns.{some_hash}
+use Rattle.run_laws.proofs.KeyedStarts.{started_outside}
+use Rattle.run_laws.proofs.LedRoles.{IsAsking, Roles, asked_from, roles_row, some_there}
+use Rattle.run_laws.proofs.LedRows.{Kept, kept, Done, Still, Dispatches, Streams, GoesDown, ComesUp}
+use Rattle.run_laws.proofs.LedRuns.{row_is, run_roles}
+use Rattle.run_laws.proofs.LogWorldRuns.{moving}
+use Rattle.run_laws.proofs.PointBranches.{all_at}
+use Rattle.run_laws.proofs.StoredSetups.{Away}
 
 -- ---- versions that go forward
 

@@ -40,9 +40,9 @@ use Rattle.node_core.specs.Parts.{Requested, Streamed, is_for, dispatched, passe
 use Rattle.node_core.specs.Saying.{Roles as Said, is_following_under, says_to, ack_under, acknowledgements_to, acknowledges, says_under, says_all}
 use Rattle.node_core.specs.Starting.{current_of}
 use Rattle.node_core.specs.Step.{NodeState, Stepped, silent, raft_outs, with_log, with_proposals, roles_of, says_now, message_row, is_well_formed, brought_row, input_row, act, act_on, end_step}
-use Rattle.world_core.specs.Story.{IsIn}
-use Rattle.world_core.proofs.Outs.{stream_cases}
-use Rattle.world_core.proofs.StoredSteps.{all_weaker, all_append}
+use Rattle.run_laws.specs.Story.{IsIn}
+use Rattle.run_laws.proofs.Outs.{stream_cases}
+use Rattle.run_laws.proofs.StoredSteps.{all_weaker, all_append}
 use Rattle.durability_laws.proofs.Places.{act_follows}
 
 -- ---- what is told

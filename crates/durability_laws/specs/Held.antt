@@ -6,9 +6,9 @@ use Rattle.branch_history.specs.Paths.{Branches, is_on}
 use Rattle.contract_types.specs.Setup.{SetupState}
 use Rattle.store_api.specs.Versions.{point, version_of}
 use Rattle.node_core.specs.declared.journal.Entry.{Entry}
-use Rattle.world_core.specs.Latest.{told_table}
-use Rattle.world_core.specs.Run.{state}
-use Rattle.world_core.specs.Story.{Point}
+use Rattle.run_laws.specs.Latest.{told_table}
+use Rattle.run_laws.specs.Run.{state}
+use Rattle.run_laws.specs.Story.{Point}
 
 -- whether a version, where there is one, has the point on its path
 abbrev pub has_on : Branches → ℕ → Point → Option Version → Bool

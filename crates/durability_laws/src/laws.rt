@@ -8,9 +8,9 @@ ghost use Rattle.register_laws.specs.declared.operation.OpId.{OpId};
 ghost use Rattle.exec_types.specs.declared.outcome.Outcome.TheVariants.{NoMajority};
 ghost use Rattle.store_api.specs.Rows.{has_key};
 ghost use Rattle.node_core.specs.declared.journal.Entry.{Entry};
-ghost use Rattle.world_core.specs.Run.{IsRun};
-ghost use Rattle.world_core.specs.Story.{Point, IsIn, points, answer};
-ghost use Rattle.world_core.specs.DonePoints.{IsDoneAt};
+ghost use Rattle.run_laws.specs.Run.{IsRun};
+ghost use Rattle.run_laws.specs.Story.{Point, IsIn, points, answer};
+ghost use Rattle.run_laws.specs.DonePoints.{IsDoneAt};
 ghost use Rattle.durability_laws.specs.Counted.{LacksMajority};
 ghost use Rattle.durability_laws.specs.Held.{holds};
 

@@ -2,11 +2,10 @@
 use Rattle.std.proofs.Common.{◌≡◌, ◌==◌, ◌||◌, ℕ, ◌+◌, ◌<◌, Bool, true, false, cond, List, [], ◌∷◌, length, get_or, drop, Option, Some, None, refl, ap, sym, ◌∙◌}
 use Rattle.std.proofs.lemmas.List.{at_drop_more}
 use Rattle.register_laws.specs.declared.operation.OpId.{OpId}
-use Rattle.register_laws.specs.Lists.{same_op}
 use Rattle.exec_types.specs.declared.outcome.Outcome.{Outcome}
 use Rattle.exec_types.specs.declared.output.Output.{Output}
-use Rattle.exec_types.specs.declared.output.Output.TheVariants.{Message, Dispatched, Viewed, Answer}
-use Rattle.world_core.specs.Story.{answer_in, or_else}
+use Rattle.run_laws.specs.Story.{answer_in, or_else}
+use Rattle.run_laws.proofs.Outs.{answer_in-append}
 use Rattle.report_text.specs.declared.answered.Answered.{Answered}
 use Rattle.report_text.specs.Known.{all_answered, or_answered, op_of}
 use Rattle.report_text.specs.Report.{is_down}
@@ -19,23 +18,13 @@ pub or_answered-assoc : (a b c : Option Answered) → or_answered (or_answered a
 or_answered-assoc None b c = refl
 or_answered-assoc (Some a) b c = refl
 
-or_else-cond : (b : Bool) (o : Outcome) (later : Option Outcome) → (cond b (Some o) later) ≡ or_else (cond b (Some o) None) later
-or_else-cond true o later = refl
-or_else-cond false o later = refl
-
-pub answer_in-cons : (x : Output) (outs : List Output) (op : OpId) → answer_in (x ∷ outs) op ≡ or_else (answer_in (x ∷ []) op) (answer_in outs op)
-answer_in-cons (Message to message) outs op = refl
-answer_in-cons (Dispatched q key branch timestamp) outs op = refl
-answer_in-cons (Viewed first results) outs op = refl
-answer_in-cons (Answer q outcome) outs op = or_else-cond (same_op q op) outcome (answer_in outs op)
-
 -- one output more
 pub keep-more : (a b : Option Answered) (x : Output) (outs : List Output) (op : OpId) → b ≡ or_answered a (all_answered (answer_in (x ∷ []) op)) → or_answered b (all_answered (answer_in outs op)) ≡ or_answered a (all_answered (answer_in (x ∷ outs) op))
 keep-more a b x outs op kept =
     ap (λ (k : Option Answered). or_answered k (all_answered (answer_in outs op))) kept
     ∙ or_answered-assoc a (all_answered (answer_in (x ∷ []) op)) (all_answered (answer_in outs op))
     ∙ ap (or_answered a) (sym (all_answered-or_else (answer_in (x ∷ []) op) (answer_in outs op)))
-    ∙ ap (λ (o : Option Outcome). or_answered a (all_answered o)) (sym (answer_in-cons x outs op))
+    ∙ ap (λ (o : Option Outcome). or_answered a (all_answered o)) (sym (answer_in-append (x ∷ []) outs op))
 
 pub or_answered-none : (a : Option Answered) → or_answered a None ≡ a
 or_answered-none None = refl

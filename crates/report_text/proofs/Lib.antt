@@ -1,5 +1,6 @@
 mod Joined
 mod Keeping
+mod Lists
 mod Skipping
 mod Telling
 mod Utf8

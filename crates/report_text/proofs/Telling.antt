@@ -8,14 +8,14 @@ use Rattle.std.specs.FinMap.{slice_cmp-IsAntisymmetric, nat_cmp-IsAntisymmetric}
 use Rattle.std.specs.BTreeMap.{get, is_at}
 use Rattle.contract_types.specs.Setup.{SetupState}
 use Rattle.contract_types.specs.Tables.{Table}
-use Rattle.world_core.specs.Latest.{told_table}
+use Rattle.run_laws.specs.Latest.{told_table}
 use Rattle.register_laws.specs.declared.operation.Op.{Op}
 use Rattle.register_laws.specs.Register.{State, state_after}
 use Rattle.register_laws.specs.Lists.{told_from}
 use Rattle.exec_types.specs.declared.output.Output.{Output}
 use Rattle.exec_types.specs.declared.output.Output.TheVariants.{Message, Dispatched, Viewed, Answer}
 use Rattle.node_core.specs.declared.journal.Entry.{Entry}
-use Rattle.world_core.specs.Story.{Point, points, points_in, points_of, same_key, is_on_path, is_shown_point, call_of, story}
+use Rattle.run_laws.specs.Story.{Point, points, points_in, points_of, same_key, is_on_path, is_shown_point, call_of, story}
 use Rattle.report_text.specs.Report.{told_text, story_line}
 use Rattle.report_text.specs.Stories.{Texts, text_at, told_op, point_text, points_text, text_or_none, line_with, line_by}
 use Rattle.world_core.proofs.Branches.{on_path-hashes}

@@ -6,8 +6,8 @@ use Rattle.std.specs.BTreeSet.{BTreeSet, contains}
 use Rattle.register_laws.specs.declared.operation.OpId.{OpId}
 use Rattle.exec_types.specs.declared.outcome.Outcome.{Outcome}
 use Rattle.node_core.specs.declared.journal.Entry.{Entry}
-use Rattle.world_core.specs.Run.{is_requested}
-use Rattle.world_core.specs.Story.{answer, is_done_outcome}
+use Rattle.run_laws.specs.Run.{is_requested}
+use Rattle.run_laws.specs.Story.{answer, is_done_outcome}
 use Rattle.report_text.specs.declared.answered.Answered.{Answered}
 use Rattle.report_text.specs.Report.{outcome_text, is_down}
 

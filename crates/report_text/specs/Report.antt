@@ -25,9 +25,9 @@ use Rattle.contract_types.specs.declared.limits.Which.TheVariants.{ScriptBytes, 
 use Rattle.exec_types.specs.declared.outcome.Outcome.{Outcome}
 use Rattle.exec_types.specs.declared.outcome.Outcome.TheVariants.{Done, NotServing, NoMajority}
 use Rattle.node_core.specs.declared.journal.Entry.{Entry}
-use Rattle.world_core.specs.Run.{is_requested}
-use Rattle.world_core.specs.Latest.{longest}
-use Rattle.world_core.specs.Story.{answer, story}
+use Rattle.run_laws.specs.Run.{is_requested}
+use Rattle.run_laws.specs.Latest.{longest}
+use Rattle.run_laws.specs.Story.{answer, story}
 use Rattle.script_text.specs.declared.script.ScriptWord.{ScriptWord}
 use Rattle.script_text.specs.declared.script.ScriptWord.TheVariants.{Request, GiveUp, See, Crash, Restart, Tick, Deliver, Lose, LoseBetween, Flush, Settle}
 use Rattle.script_text.specs.declared.script.ScriptItem.{ScriptItem}

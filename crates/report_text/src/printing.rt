@@ -2,7 +2,7 @@
 ghost use Rattle.std.specs.Prelude.{◌≡◌, ◌++◌, [], ◌<◌, ◌≤◌, ℕ, length, take, map, IfOk, OnOk, OnErr, IsErrOf, IsTrue};
 ghost use Rattle.line_io.specs.Bytes.{Appends};
 ghost use Rattle.line_io.specs.Counts.{rose};
-ghost use Rattle.world_core.specs.Latest.{told_table};
+ghost use Rattle.run_laws.specs.Latest.{told_table};
 ghost use Rattle.report_text.specs.Report.{with_op_line, op_lines, refusal_line, with_skipped, skipped_lines, story_line, keys_from, report, joined};
 ghost use Rattle.report_text.specs.Stories.{line_by};
 ghost use Rattle.report_text.specs.declared.print_refused.PrintRefused.TheVariants.{WriteFault, OutOfMemory};

@@ -4,7 +4,7 @@ ghost use Rattle.std.specs.Ordering.{nat_cmp};
 ghost use Rattle.std.specs.Cmp.Lexicographic.{slice_cmp};
 ghost use Rattle.std.specs.BTreeMap.{get, is_at};
 ghost use Rattle.register_laws.specs.Lists.{is_read};
-ghost use Rattle.world_core.specs.Story.{same_key, is_shown, points, points_in, points_of};
+ghost use Rattle.run_laws.specs.Story.{same_key, is_shown, points, points_in, points_of};
 ghost use Rattle.report_text.specs.Report.{keys_from, with_key};
 ghost use Rattle.report_text.specs.Stories.{text_at, told_op, points_text, line_by};
 

@@ -9,7 +9,7 @@ use Rattle.contract_types.specs.Setup.{SetupState}
 use Rattle.contract_types.specs.declared.limits.Which.{Which}
 use Rattle.exec_types.specs.declared.input.Input.{Input}
 use Rattle.exec_types.specs.declared.input.Input.TheVariants as input
-use Rattle.world_core.specs.Run.{message_at}
+use Rattle.run_laws.specs.Run.{message_at}
 use Rattle.world_core.specs.Waiting.{waiting}
 use Rattle.script_text.specs.declared.script.ScriptItem.{ScriptItem}
 use Rattle.script_text.specs.Sound.{fits_table}

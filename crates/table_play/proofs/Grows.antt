@@ -8,10 +8,10 @@ use Rattle.contract_types.specs.Setup.{SetupState}
 use Rattle.exec_types.specs.declared.input.Input.{Input}
 use Rattle.exec_types.specs.declared.input.Input.TheVariants as input
 use Rattle.node_core.specs.declared.journal.Entry.{Entry}
-use Rattle.world_core.specs.declared.envelope.Envelope.{Envelope}
+use Rattle.run_laws.specs.declared.envelope.Envelope.{Envelope}
 use Rattle.world_core.specs.declared.push_refused.PushRefused.{PushRefused}
 use Rattle.world_core.specs.declared.push_refused.PushRefused.TheVariants as refused
-use Rattle.world_core.specs.Run.{message_at, entry_of, state}
+use Rattle.run_laws.specs.Run.{message_at, entry_of, state}
 use Rattle.world_core.specs.Waiting.{waiting}
 use Rattle.world_core.specs.World.{event_refusal}
 use Rattle.script_text.specs.declared.script.ScriptWord.{ScriptWord}

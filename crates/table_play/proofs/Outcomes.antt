@@ -14,12 +14,12 @@ use Rattle.contract_types.specs.declared.limits.Which.{Which}
 use Rattle.register_laws.specs.declared.operation.OpId.{OpId}
 use Rattle.report_text.specs.declared.ending.Refusal.{Refusal}
 use Rattle.report_text.specs.Report.{report, joined}
-use Rattle.world_core.specs.Run.{IsRun}
-use Rattle.world_core.specs.Answers.{answers_to}
-use Rattle.world_core.specs.Story.{IsRegisterStory, answer, story}
-use Rattle.world_core.proofs.Once.{once_answered}
-use Rattle.world_core.proofs.OnceGivenUp.{given_up_short}
-use Rattle.world_core.proofs.AllStories.{run_stories}
+use Rattle.run_laws.specs.Run.{IsRun}
+use Rattle.run_laws.specs.Answers.{answers_to}
+use Rattle.run_laws.specs.Story.{IsRegisterStory, answer, story}
+use Rattle.run_laws.proofs.Once.{once_answered}
+use Rattle.run_laws.proofs.OnceGivenUp.{given_up_short}
+use Rattle.run_laws.proofs.AllStories.{run_stories}
 use Rattle.table_play.specs.Play.{Played, play_journal, ending_of}
 use Rattle.table_play.specs.Steps.{played_by}
 use Rattle.table_play.specs.Headline.{Ends, Wants, WantsUnsaid, Says, plays, status_of, IsRunFrom, IsRunJournal}

@@ -7,9 +7,9 @@ use Rattle.contract_types.specs.Setup.{SetupState}
 use Rattle.contract_types.specs.declared.limits.Which.TheVariants.{JournalEntries, JournalWeight, Numbers}
 use Rattle.exec_types.specs.declared.input.Input.{Input}
 use Rattle.exec_types.specs.declared.input.Input.TheVariants as input
-use Rattle.world_core.specs.declared.envelope.Envelope.{Envelope}
+use Rattle.run_laws.specs.declared.envelope.Envelope.{Envelope}
 use Rattle.node_core.specs.Step.{ends_numbers}
-use Rattle.world_core.specs.Run.{brought, state, message_at, entry_of, suits}
+use Rattle.run_laws.specs.Run.{brought, state, message_at, entry_of, suits}
 use Rattle.world_core.specs.Waiting.{waiting}
 use Rattle.world_core.specs.World.{most_entries, most_weight, total_weight}
 use Rattle.script_text.specs.declared.script.ScriptWord.{ScriptWord}

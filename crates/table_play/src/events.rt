@@ -2,7 +2,7 @@
 ghost use Rattle.std.specs.Prelude.{◌≡◌, ◌<◌, ◌++◌, ◌∷◌, [], ℕ, List, None, true, false, nat_lt, IfOk, OnOk, OnErr};
 ghost use Rattle.std.specs.List.{list_all};
 ghost use Rattle.node_core.specs.declared.journal.Entry.{Entry};
-ghost use Rattle.world_core.specs.Run.{message_at};
+ghost use Rattle.run_laws.specs.Run.{message_at};
 ghost use Rattle.contract_types.specs.Setup.{nodes_below};
 ghost use Rattle.script_text.specs.Sound.{fits_table, fits_only};
 ghost use Rattle.table_play.specs.Play.{is_over, play_event, play_arrival, play_delivery, play_loss, play_losses, play_flush, play_tick, play_ticks, play_round, play_rounds, play_word, play_items, only_of};

@@ -11,7 +11,7 @@ use Rattle.branch_history.specs.Histories.{HasHashes, hashes_of}
 use Rattle.store_api.specs.Versions.{point}
 use Rattle.contract_types.specs.Setup.{SetupState}
 use Rattle.contract_types.specs.Tables.{Table, branch_at}
-use Rattle.world_core.specs.Story.{Point, same_key, branch_in, is_on_branch, is_on_path}
+use Rattle.run_laws.specs.Story.{Point, same_key, branch_in, is_on_branch, is_on_path}
 
 -- of what the table began with, the hashes alone count
 on_branch-hashes : (a b : SetupState) (t : Table) (key : List ℕ) (o : Option Id) (v : Version) → a.hashes ≡ b.hashes → is_on_branch a t key o v ≡ is_on_branch b t key o v

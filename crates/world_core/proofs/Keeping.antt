@@ -1,12 +1,11 @@
 -- Laws of marks that are made one after another.
 use Rattle.std.proofs.Common.{◌≡◌, Bool, true, false, cond, List, [], ◌∷◌, Option, Some, None, refl, ap, sym, ◌∙◌}
 use Rattle.register_laws.specs.declared.operation.OpId.{OpId}
-use Rattle.register_laws.specs.Lists.{same_op}
 use Rattle.exec_types.specs.declared.outcome.Outcome.{Outcome}
 use Rattle.exec_types.specs.declared.output.Output.{Output}
-use Rattle.exec_types.specs.declared.output.Output.TheVariants.{Message, Dispatched, Viewed, Answer}
 use Rattle.node_core.specs.declared.journal.Entry.{Entry}
-use Rattle.world_core.specs.Story.{answer, answer_in, or_else, is_done_outcome}
+use Rattle.run_laws.specs.Story.{answer, answer_in, or_else, is_done_outcome}
+use Rattle.run_laws.proofs.Outs.{answer_in-append}
 use Rattle.world_core.specs.Done.{Marks, mark_of, or_mark, MarksAnswers, is_marked, is_done_by}
 
 pub mark_of-or_else : (a b : Option Outcome) → mark_of (or_else a b) ≡ or_mark (mark_of a) (mark_of b)
@@ -21,23 +20,13 @@ pub or_mark-none : (a : Option Bool) → or_mark a None ≡ a
 or_mark-none None = refl
 or_mark-none (Some a) = refl
 
-or_else-cond : (b : Bool) (o : Outcome) (later : Option Outcome) → (cond b (Some o) later) ≡ or_else (cond b (Some o) None) later
-or_else-cond true o later = refl
-or_else-cond false o later = refl
-
-pub answer_in-cons : (x : Output) (outs : List Output) (op : OpId) → answer_in (x ∷ outs) op ≡ or_else (answer_in (x ∷ []) op) (answer_in outs op)
-answer_in-cons (Message to message) outs op = refl
-answer_in-cons (Dispatched q key branch timestamp) outs op = refl
-answer_in-cons (Viewed first results) outs op = refl
-answer_in-cons (Answer q outcome) outs op = or_else-cond (same_op q op) outcome (answer_in outs op)
-
 -- an output more
 pub mark-more : (a b : Option Bool) (x : Output) (outs : List Output) (op : OpId) → b ≡ or_mark a (mark_of (answer_in (x ∷ []) op)) → or_mark b (mark_of (answer_in outs op)) ≡ or_mark a (mark_of (answer_in (x ∷ outs) op))
 mark-more a b x outs op marked =
     ap (λ (k : Option Bool). or_mark k (mark_of (answer_in outs op))) marked
     ∙ or_mark-assoc a (mark_of (answer_in (x ∷ []) op)) (mark_of (answer_in outs op))
     ∙ ap (or_mark a) (sym (mark_of-or_else (answer_in (x ∷ []) op) (answer_in outs op)))
-    ∙ ap (λ (o : Option Outcome). or_mark a (mark_of o)) (sym (answer_in-cons x outs op))
+    ∙ ap (λ (o : Option Outcome). or_mark a (mark_of o)) (sym (answer_in-append (x ∷ []) outs op))
 
 -- an entry more
 pub mark-entry : (a b : Option Bool) (e : Entry) (before : List Entry) (op : OpId) → a ≡ mark_of (answer before op) → b ≡ or_mark a (mark_of (answer_in e.outputs op)) → b ≡ mark_of (answer (e ∷ before) op)

@@ -13,8 +13,8 @@ use Rattle.region_map.specs.Nodes.{has, node_id}
 use Rattle.contract_types.specs.Setup.{SetupState}
 use Rattle.node_core.specs.declared.journal.Entry.{Entry}
 use Rattle.node_core.specs.Step.{NodeState}
-use Rattle.world_core.specs.declared.envelope.Envelope.{Envelope}
-use Rattle.world_core.specs.Run.{sent, message_at, state}
+use Rattle.run_laws.specs.declared.envelope.Envelope.{Envelope}
+use Rattle.run_laws.specs.Run.{sent, message_at, state}
 use Rattle.world_core.specs.Waiting.{is_lost, is_waiting, is_sent, is_delivered, is_between, may_flow, is_flowing, first_from, all_from, waiting, waiting_between}
 use Rattle.world_core.specs.Pairs.{SetsState, AreWaiting, IsLeast, any_below, is_up_state, is_up_among, may_pass, set_of, pair_has, waits_between, flows_between, flows_from, flows_in}
 use Rattle.std.specs.BTreeSet.{BTreeSet}

@@ -21,10 +21,10 @@ use Rattle.node_core.specs.declared.node.Brought.{Brought}
 use Rattle.node_core.specs.declared.journal.Entry.{Entry}
 use Rattle.node_core.specs.Step.{NodeState, begin_node, node_step, ends_numbers}
 use Rattle.journal_weight.specs.Weights.{weight_of}
-use Rattle.world_core.specs.declared.envelope.Envelope.{Envelope}
+use Rattle.run_laws.specs.declared.envelope.Envelope.{Envelope}
 use Rattle.world_core.specs.declared.push_refused.PushRefused.{PushRefused}
 use Rattle.world_core.specs.declared.push_refused.PushRefused.TheVariants.{NoSuchNode, NotYours, Down, Up, OpKnown, JournalFull, OutOfMemory}
-use Rattle.world_core.specs.Run.{numbered, may_step, sent, sent_by, brought, state, requests, is_requested, message_at, names_node, suits, is_to, arrives, is_fresh, outs_of, entry_of}
+use Rattle.run_laws.specs.Run.{numbered, may_step, sent, sent_by, brought, state, requests, is_requested, message_at, names_node, suits, is_to, arrives, is_fresh, outs_of, entry_of}
 use Rattle.world_core.specs.Waiting.{delivers, is_between}
 use Rattle.world_core.specs.Pairs.{SetsState, pair_has, comes_between, waits_between, is_up_state, is_up_among}
 use Rattle.world_core.proofs.Waits.{waits_next, sent_next, arrives_sent, waits_lost, sent_lost, lost_one, one_is_sent}

@@ -11,13 +11,13 @@ use Rattle.register_laws.specs.Lists.{told_from, is_read}
 use Rattle.exec_types.specs.declared.output.Output.{Output}
 use Rattle.node_core.specs.declared.journal.Entry.{Entry}
 use Rattle.world_core.specs.Done.{Marks, MarksAnswers}
-use Rattle.world_core.specs.Latest.{told_table}
-use Rattle.world_core.specs.Story.{Point, points, points_in, points_of, is_on_path, is_shown_point, call_of, story}
+use Rattle.run_laws.specs.Latest.{told_table}
+use Rattle.run_laws.specs.Story.{Point, points, points_in, points_of, is_on_path, is_shown_point, call_of, story}
 use Rattle.world_core.specs.Telling.{is_shown_by, is_told_by, calls_of}
 use Rattle.world_core.proofs.Branches.{on_path-hashes}
 use Rattle.world_core.proofs.Keeping.{done-marked}
-use Rattle.world_core.proofs.Outs.{points_in-append}
-use Rattle.world_core.proofs.Told.{filter-append, filter-filter}
+use Rattle.run_laws.proofs.Outs.{points_in-append}
+use Rattle.run_laws.proofs.Told.{filter-append, filter-filter}
 
 abbrev pub Calls : Type 0
 Calls = List (OpId × Op)

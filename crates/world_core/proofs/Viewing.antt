@@ -12,8 +12,8 @@ use Rattle.table_log.specs.Fitting.{fits}
 use Rattle.exec_types.specs.declared.output.Output.{Output}
 use Rattle.exec_types.specs.declared.output.Output.TheVariants.{Message, Dispatched, Viewed, Answer}
 use Rattle.node_core.specs.declared.journal.Entry.{Entry}
-use Rattle.world_core.specs.Committed.{viewed_in, viewed_by}
-use Rattle.world_core.specs.Latest.{longer, longest_of}
+use Rattle.run_laws.specs.Committed.{viewed_in, viewed_by}
+use Rattle.run_laws.specs.Latest.{longer, longest_of}
 
 -- ---- the changes that a node viewed
 

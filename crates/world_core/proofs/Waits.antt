@@ -8,10 +8,10 @@ use Rattle.exec_types.specs.declared.input.Input.TheVariants.{Request, GiveUp, S
 use Rattle.region_map.specs.declared.id.NodeId.{NodeId}
 use Rattle.contract_types.specs.Setup.{SetupState}
 use Rattle.node_core.specs.declared.journal.Entry.{Entry}
-use Rattle.world_core.specs.declared.envelope.Envelope.{Envelope}
+use Rattle.run_laws.specs.declared.envelope.Envelope.{Envelope}
 use Rattle.world_core.specs.declared.push_refused.PushRefused.{PushRefused}
 use Rattle.world_core.specs.declared.push_refused.PushRefused.TheVariants.{NoSuchNode}
-use Rattle.world_core.specs.Run.{sent, sent_by, numbered, message_at, state}
+use Rattle.run_laws.specs.Run.{sent, sent_by, numbered, message_at, state}
 use Rattle.world_core.specs.World.{AreSent, names_nodes, entries_refusal, owner_refusal, message_refusal, up_refusal, op_refusal, input_refusal, entry_refusal}
 use Rattle.world_core.specs.Waiting.{is_sent, delivers, is_delivered, is_lost, is_waiting, is_new, is_between}
 use Rattle.world_core.specs.Pairs.{waits_between, comes_between}

@@ -5,7 +5,7 @@ use Rattle.std.specs.BTreeMap.{BTreeMap, get}
 use Rattle.register_laws.specs.declared.operation.OpId.{OpId}
 use Rattle.exec_types.specs.declared.outcome.Outcome.{Outcome}
 use Rattle.node_core.specs.declared.journal.Entry.{Entry}
-use Rattle.world_core.specs.Story.{answer, is_done_outcome}
+use Rattle.run_laws.specs.Story.{answer, is_done_outcome}
 
 -- by numbers of operations that were answered: whether they are done
 abbrev pub Marks : Type 0

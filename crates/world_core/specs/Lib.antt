@@ -1,16 +1,5 @@
-pub mod Answers
-pub mod Committed
 pub mod Done
-pub mod DonePoints
-pub mod GivenUp
-pub mod Latest
 pub mod Pairs
-pub mod Rising
-pub mod Run
-pub mod Served
-pub mod Serving
-pub mod Stored
-pub mod Story
 pub mod Telling
 pub mod Waiting
 pub mod World

@@ -7,8 +7,8 @@ use Rattle.region_map.specs.Nodes.{has, node_id}
 use Rattle.contract_types.specs.Setup.{SetupState}
 use Rattle.node_core.specs.declared.journal.Entry.{Entry}
 use Rattle.node_core.specs.Step.{NodeState}
-use Rattle.world_core.specs.declared.envelope.Envelope.{Envelope}
-use Rattle.world_core.specs.Run.{message_at, numbered}
+use Rattle.run_laws.specs.declared.envelope.Envelope.{Envelope}
+use Rattle.run_laws.specs.Run.{message_at, numbered}
 use Rattle.world_core.specs.Waiting.{is_waiting, is_new, is_between}
 
 -- how many nodes there are, and the set of each pair: that of a sender and a receiver stands at the sender's number times

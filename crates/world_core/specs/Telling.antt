@@ -9,7 +9,7 @@ use Rattle.register_laws.specs.Lists.{is_read}
 use Rattle.node_core.specs.declared.journal.Entry.{Entry}
 use Rattle.node_core.specs.Journal.{JournalState}
 use Rattle.world_core.specs.Done.{Marks, is_done_by}
-use Rattle.world_core.specs.Story.{Point, call_of, is_on_path, story}
+use Rattle.run_laws.specs.Story.{Point, call_of, is_on_path, story}
 
 -- the story of a key in a journal; where no table began there is none
 abbrev pub story_from : Option SetupState → List Entry → List ℕ → List Told

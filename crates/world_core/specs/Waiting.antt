@@ -6,8 +6,8 @@ use Rattle.node_core.specs.declared.journal.Entry.{Entry}
 use Rattle.region_map.specs.declared.id.NodeId.{NodeId}
 use Rattle.region_map.specs.Nodes.{has}
 use Rattle.contract_types.specs.Setup.{SetupState}
-use Rattle.world_core.specs.declared.envelope.Envelope.{Envelope}
-use Rattle.world_core.specs.Run.{sent, message_at, state}
+use Rattle.run_laws.specs.declared.envelope.Envelope.{Envelope}
+use Rattle.run_laws.specs.Run.{sent, message_at, state}
 
 -- a message of this number was sent
 abbrev pub is_sent : List Entry → ℕ → Bool

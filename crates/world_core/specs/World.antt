@@ -16,10 +16,10 @@ use Rattle.node_core.specs.declared.journal.Entry.{Entry}
 use Rattle.node_core.specs.Step.{NodeState, ends_numbers}
 use Rattle.node_core.specs.Journal.{JournalState}
 use Rattle.journal_weight.specs.Weights.{weight_of}
-use Rattle.world_core.specs.declared.envelope.Envelope.{Envelope}
+use Rattle.run_laws.specs.declared.envelope.Envelope.{Envelope}
 use Rattle.world_core.specs.declared.push_refused.PushRefused.{PushRefused}
 use Rattle.world_core.specs.declared.push_refused.PushRefused.TheVariants.{NoSuchNode, NoSuchMessage, NotYours, Down, Up, OpKnown, JournalFull, OutOfMemory}
-use Rattle.world_core.specs.Run.{IsRun, sent, is_requested, message_at, brought, state, entry_of, names_node, suits}
+use Rattle.run_laws.specs.Run.{IsRun, sent, is_requested, message_at, brought, state, entry_of, names_node, suits}
 use Rattle.world_core.specs.Waiting.{is_sent, is_delivered, is_lost}
 use Rattle.world_core.specs.Pairs.{SetsState, AreWaiting}
 

@@ -2,7 +2,7 @@
 ghost use Rattle.std.specs.Prelude.{◌≡◌, ◌==◌, ℕ, [], ◌∷◌, Some, None, reverse, IfOk, OnOk, if◌then◌else◌};
 ghost use Rattle.std.specs.Ordering.{nat_cmp};
 ghost use Rattle.std.specs.BTreeMap.{get};
-ghost use Rattle.world_core.specs.Story.{answer_in, is_done_outcome};
+ghost use Rattle.run_laws.specs.Story.{answer_in, is_done_outcome};
 ghost use Rattle.world_core.specs.Done.{mark_of, or_mark, op_of, MarksAnswers, is_done_by};
 
 use exec_types::{Outcome, Output};

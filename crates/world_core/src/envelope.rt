@@ -2,8 +2,8 @@
 ghost use Rattle.std.specs.Prelude.{◌≡◌, ℕ, ◌+◌, ◌==◌, ◌<◌, ◌&&◌, ◌||◌, ◌++◌, ◌∷◌, [], Some, OnOk, IfOk, List, length, option_copied};
 ghost use Rattle.region_map.specs.declared.id.NodeId.{NodeId};
 ghost use Rattle.exec_types.specs.declared.output.Output.{Output};
-ghost use Rattle.world_core.specs.declared.envelope.Envelope.{Envelope};
-ghost use Rattle.world_core.specs.Run.{sent_by, numbered, opened};
+ghost use Rattle.run_laws.specs.declared.envelope.Envelope.{Envelope};
+ghost use Rattle.run_laws.specs.Run.{sent_by, numbered, opened};
 ghost use Rattle.world_core.specs.Waiting.{is_between};
 ghost use Rattle.world_core.specs.Pairs.{pair_has, comes_between};
 
@@ -12,15 +12,8 @@ use exec_types::{Message, Output};
 use memory::OutOfMemory;
 use node_core::Brought;
 use region_map::NodeId;
+use run_laws::Envelope;
 use std::alloc::Global;
-
-/// A message with its sender and the node that it is for.
-#[derive(Drop)]
-pub struct Envelope {
-    pub from: NodeId,
-    pub to: NodeId,
-    pub message: Message,
-}
 
 /// The message of a number, which counts from 1.
 pub fn find(sent: &[Envelope], number: u64) -> Option<&Envelope>

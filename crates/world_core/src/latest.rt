@@ -1,8 +1,8 @@
 //! The changes that a journal tells, and the table that follows from them.
 ghost use Rattle.std.specs.Prelude.{◌≡◌, ◌++◌, ◌∷◌, [], reverse, map, IfOk, OnOk};
 ghost use Rattle.contract_types.specs.Tables.{setup as table_of};
-ghost use Rattle.world_core.specs.Committed.{viewed_in, viewed_by};
-ghost use Rattle.world_core.specs.Latest.{longer, longest, told_step, told_from};
+ghost use Rattle.run_laws.specs.Committed.{viewed_in, viewed_by};
+ghost use Rattle.run_laws.specs.Latest.{longer, longest, told_step, told_from};
 
 use contract_types::{Change, Setup, TableState};
 use exec_types::Output;

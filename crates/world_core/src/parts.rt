@@ -7,13 +7,13 @@ ghost use Rattle.node_core.specs.declared.journal.Entry.{Entry};
 ghost use Rattle.node_core.specs.Step.{NodeState, begin_node, node_step, ends_numbers};
 ghost use Rattle.journal_weight.specs.Weights.{weight_of};
 ghost use Rattle.register_laws.specs.declared.operation.OpId.{OpId};
-ghost use Rattle.world_core.specs.Run.{sent, numbered, brought, requests, is_requested, entry_of, suits};
+ghost use Rattle.run_laws.specs.Run.{sent, numbered, brought, requests, is_requested, entry_of, suits};
 ghost use Rattle.world_core.specs.Waiting.{delivers, is_between};
 ghost use Rattle.world_core.specs.Pairs.{pair_has, is_up_among};
 ghost use Rattle.world_core.specs.World.{op_cmp, AreRequested, IsInStep, most_entries, states, names_nodes, message_refusal, op_refusal, entry_refusal, made_refusal, heavy_refusal, total_weight, is_final};
 
 use crate::PushRefused;
-use crate::envelope::{Envelope, collect, find, open};
+use crate::envelope::{collect, find, open};
 use crate::waiting_sets::WaitingSets;
 use contract_types::{Setup, Which};
 use exec_types::{Input, Outputs};
@@ -22,6 +22,7 @@ use memory::OutOfMemory;
 use node_core::{Brought, Entry, Journal, Node};
 use region_map::{NodeId, StepRefused};
 use register_laws::OpId;
+use run_laws::Envelope;
 use std::alloc::Global;
 use std::collections::BTreeSet;
 

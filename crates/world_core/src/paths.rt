@@ -1,6 +1,6 @@
 //! The current branch of a key in a table, and what lies on its path.
 ghost use Rattle.std.specs.Prelude.{◌≡◌, Some};
-ghost use Rattle.world_core.specs.Story.{branch_in, is_on_branch};
+ghost use Rattle.run_laws.specs.Story.{branch_in, is_on_branch};
 
 use branch_history::Version;
 use contract_types::TableState;

@@ -1,7 +1,7 @@
 //! The story of a key in a journal.
 ghost use Rattle.std.specs.Prelude.{◌≡◌, ◌++◌, ◌∷◌, [], None, map, reverse, IfOk, OnOk};
 ghost use Rattle.register_laws.specs.Lists.{told_from};
-ghost use Rattle.world_core.specs.Story.{points, points_in, points_of};
+ghost use Rattle.run_laws.specs.Story.{points, points_in, points_of};
 ghost use Rattle.world_core.specs.Telling.{story_in, is_shown_by, calls_of};
 
 use crate::done::{is_done, marks_of};

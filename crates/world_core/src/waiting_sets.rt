@@ -7,9 +7,9 @@ ghost use Rattle.region_map.specs.declared.id.NodeId.{NodeId};
 ghost use Rattle.world_core.specs.Waiting.{is_between};
 ghost use Rattle.world_core.specs.Pairs.{SetsState, place_of, set_of, pair_has, IsLeast};
 
-use crate::envelope::Envelope;
 use memory::OutOfMemory;
 use region_map::NodeId;
+use run_laws::Envelope;
 use std::alloc::Global;
 use std::collections::BTreeSet;
 use std::marker::Model;

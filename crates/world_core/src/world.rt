@@ -3,12 +3,12 @@ ghost use Rattle.std.specs.Prelude.{◌≡◌, ℕ, List, ◌∷◌, ◌++◌, �
 ghost use Rattle.std.specs.List.{list_all};
 ghost use Rattle.contract_types.specs.Setup.{IsSetup};
 ghost use Rattle.node_core.specs.declared.journal.Entry.{Entry};
-ghost use Rattle.world_core.specs.Run.{IsRun, message_at, entry_of};
-ghost use Rattle.world_core.specs.Story.{IsRegisterStory, story};
+ghost use Rattle.run_laws.specs.Run.{IsRun, message_at, entry_of};
+ghost use Rattle.run_laws.specs.Story.{IsRegisterStory, story};
 ghost use Rattle.world_core.specs.Waiting.{waiting, waiting_between};
 ghost use Rattle.world_core.specs.World.{push_refusal, after_refusal, receiver_of, is_up};
 
-use crate::envelope::{Envelope, find};
+use crate::envelope::find;
 use crate::flowing::first_in;
 use crate::parts::{begin_nodes, is_up, refusal, stop_waiting, take};
 use crate::waiting_sets::WaitingSets;
@@ -19,6 +19,7 @@ use memory::OutOfMemory;
 use node_core::{Journal, Node};
 use region_map::{NodeId, NodeSet};
 use register_laws::OpId;
+use run_laws::Envelope;
 use std::alloc::Global;
 use std::collections::BTreeSet;
 use std::marker::Model;

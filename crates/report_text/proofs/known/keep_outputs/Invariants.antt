@@ -1,7 +1,7 @@
 use Rattle.std.proofs.Common.{◌≡◌, ℕ, drop}
 use Rattle.std.specs.Ordering.{nat_cmp}
 use Rattle.std.specs.BTreeMap.{get}
-use Rattle.world_core.specs.Story.{answer_in}
+use Rattle.run_laws.specs.Story.{answer_in}
 use Rattle.report_text.specs.Known.{all_answered, or_answered, op_of}
 use Rattle.report_text.proofs.known.keep_outputs.Given as goal
 

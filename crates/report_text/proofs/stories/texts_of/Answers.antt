@@ -1,8 +1,8 @@
 use Rattle.std.proofs.Common.{ap, sym, ◌∙◌, List, take, reverse}
 use Rattle.node_core.specs.declared.journal.Entry.{Entry}
-use Rattle.world_core.specs.Story.{points}
+use Rattle.run_laws.specs.Story.{points}
 use Rattle.report_text.specs.Stories.{text_at, points_text}
-use Rattle.world_core.proofs.Lists.{reverse-more_read}
+use Rattle.report_text.proofs.Lists.{reverse-more_read}
 use Rattle.report_text.proofs.Telling.{tell-entry}
 use Rattle.report_text.proofs.stories.texts_of.Goals as goal
 

@@ -1,5 +1,5 @@
-use Rattle.world_core.proofs.KeyedLaws.{answered_not_served, not_served_answered}
-use Rattle.world_core.proofs.OnceGivenUp.{given_up_where}
+use Rattle.run_laws.proofs.KeyedLaws.{answered_not_served, not_served_answered}
+use Rattle.run_laws.proofs.OnceGivenUp.{given_up_where}
 use Rattle.table_play.proofs.Outcomes.{journal_run, journal_story, journal_once, journal_short}
 use Rattle.table_play.proofs.play.play.Goals as goal
 

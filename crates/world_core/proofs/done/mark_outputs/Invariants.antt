@@ -1,7 +1,7 @@
 use Rattle.std.proofs.Common.{◌≡◌, ℕ, drop}
 use Rattle.std.specs.Ordering.{nat_cmp}
 use Rattle.std.specs.BTreeMap.{get}
-use Rattle.world_core.specs.Story.{answer_in}
+use Rattle.run_laws.specs.Story.{answer_in}
 use Rattle.world_core.specs.Done.{mark_of, or_mark, op_of}
 use Rattle.world_core.proofs.done.mark_outputs.Given as goal
 

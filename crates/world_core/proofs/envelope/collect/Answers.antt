@@ -2,7 +2,7 @@
 use Rattle.std.proofs.Common.{◌≡◌, ◌+◌, ◌∷◌, drop, ◌<◌, ◌||◌, ◌++◌, List, length, sym, ap, ◌∙◌, subst}
 use Rattle.std.proofs.lemmas.List.{drop_more}
 use Rattle.exec_types.specs.declared.output.Output.{Output}
-use Rattle.world_core.specs.Run.{sent_by}
+use Rattle.run_laws.specs.Run.{sent_by}
 use Rattle.world_core.specs.Pairs.{pair_has, comes_between}
 use Rattle.world_core.proofs.Waits.{comes_more_to, grows}
 use Rattle.world_core.proofs.envelope.collect.Goals as goal

@@ -1,7 +1,7 @@
 -- What was sent, and the messages among the outputs that are left, are what comes of all outputs; what came so far waits.
 use Rattle.std.proofs.Common.{◌≡◌, ◌++◌, ◌||◌, ℕ, ◌<◌, ◌≤◌, length, drop}
 use Rattle.region_map.specs.declared.id.NodeId.{NodeId}
-use Rattle.world_core.specs.Run.{sent_by}
+use Rattle.run_laws.specs.Run.{sent_by}
 use Rattle.world_core.specs.Pairs.{pair_has, comes_between}
 use Rattle.world_core.proofs.envelope.collect.Given as goal
 

@@ -1,6 +1,6 @@
 -- The message that comes is the last.
 use Rattle.std.proofs.Common.{◌≡◌, ℕ, ◌+◌, ◌==◌, ◌&&◌, Some, ◌||◌, List, length, sym, ap, ◌∙◌, arith}
-use Rattle.world_core.specs.declared.envelope.Envelope.{Envelope}
+use Rattle.run_laws.specs.declared.envelope.Envelope.{Envelope}
 use Rattle.world_core.specs.Waiting.{is_between}
 use Rattle.world_core.specs.Pairs.{pair_has, comes_between}
 use Rattle.world_core.proofs.Waits.{comes_one}

@@ -1,5 +1,5 @@
 use Rattle.std.proofs.Common.{◌≡◌, ◌++◌, map, drop}
-use Rattle.world_core.specs.Committed.{viewed_in}
+use Rattle.run_laws.specs.Committed.{viewed_in}
 use Rattle.world_core.proofs.latest.add_outputs.Given as goal
 
 -- with the changes of the outputs that are left, it comes to those of all

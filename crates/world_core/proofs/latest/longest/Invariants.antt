@@ -1,6 +1,6 @@
 use Rattle.std.proofs.Common.{◌≡◌, map, reverse}
 use Rattle.contract_types.specs.Setup.{nodes_below}
-use Rattle.world_core.specs.Latest.{longest_of}
+use Rattle.run_laws.specs.Latest.{longest_of}
 use Rattle.world_core.proofs.latest.longest.Given as goal
 
 -- the longest list of the nodes so far

@@ -1,6 +1,6 @@
 use Rattle.std.proofs.Common.{◌≡◌, ◌+◌, map, drop}
 use Rattle.contract_types.specs.Tables.{setup as table_of}
-use Rattle.world_core.specs.Latest.{told_from}
+use Rattle.run_laws.specs.Latest.{told_from}
 use Rattle.world_core.proofs.latest.told_table.Given as goal
 
 -- the changes that are left lead from the table to that of all

@@ -1,5 +1,5 @@
 use Rattle.std.proofs.Common.{◌≡◌, map, take, reverse}
-use Rattle.world_core.specs.Committed.{viewed_by}
+use Rattle.run_laws.specs.Committed.{viewed_by}
 use Rattle.world_core.proofs.latest.viewed_by.Given as goal
 
 abbrev pub invariant-loop-entry : goal.invariant-loop-entry

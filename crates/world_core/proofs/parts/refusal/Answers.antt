@@ -2,7 +2,7 @@
 use Rattle.std.proofs.Common.{◌≡◌, true, false, cond, nat_lt, Some, None, sym, ap, ◌∙◌}
 use Rattle.std.proofs.lemmas.Bool.{and_parts}
 use Rattle.world_core.specs.declared.push_refused.PushRefused.TheVariants.{Up, Down}
-use Rattle.world_core.specs.Run.{names_node, suits}
+use Rattle.run_laws.specs.Run.{names_node, suits}
 use Rattle.world_core.specs.World.{names_nodes, message_refusal, entries_refusal}
 use Rattle.world_core.proofs.States.{up_stored, entry_unsuited, entry_suited, known_refused, unknown, full, not_full}
 use Rattle.world_core.proofs.parts.refusal.Goals as goal

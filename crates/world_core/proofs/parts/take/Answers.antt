@@ -4,10 +4,10 @@ use Rattle.std.proofs.lemmas.Result.{err_from_is_err_and}
 use Rattle.contract_types.specs.Setup.{SetupState}
 use Rattle.exec_types.specs.declared.output.Output.{Output}
 use Rattle.node_core.specs.Journal.{JournalState}
-use Rattle.world_core.specs.declared.envelope.Envelope.{Envelope}
+use Rattle.run_laws.specs.declared.envelope.Envelope.{Envelope}
 use Rattle.world_core.specs.Waiting.{delivers, is_between}
 use Rattle.world_core.specs.Pairs.{pair_has, comes_between}
-use Rattle.world_core.specs.Run.{numbered, brought, state, outs_of, sent_by}
+use Rattle.run_laws.specs.Run.{numbered, brought, state, outs_of, sent_by}
 use Rattle.world_core.specs.World.{total_weight}
 use Rattle.world_core.proofs.States.{state_stored, numbers_refused, weight_next, weight_decides, outs_given, node_given, IsInStep-next}
 use Rattle.world_core.proofs.parts.take.Goals as goal

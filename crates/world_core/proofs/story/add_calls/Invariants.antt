@@ -1,5 +1,5 @@
 use Rattle.std.proofs.Common.{◌≡◌, ◌++◌, map, drop}
-use Rattle.world_core.specs.Story.{points_in}
+use Rattle.run_laws.specs.Story.{points_in}
 use Rattle.world_core.specs.Telling.{calls_of}
 use Rattle.world_core.proofs.story.add_calls.Given as goal
 

@@ -1,5 +1,5 @@
 use Rattle.std.proofs.Common.{◌≡◌, map, take, reverse}
-use Rattle.world_core.specs.Story.{points}
+use Rattle.run_laws.specs.Story.{points}
 use Rattle.world_core.specs.Telling.{calls_of}
 use Rattle.world_core.proofs.story.calls_of.Given as goal
 

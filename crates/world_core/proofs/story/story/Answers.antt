@@ -4,8 +4,8 @@ use Rattle.contract_types.specs.Setup.{SetupState}
 use Rattle.register_laws.specs.Lists.{told_from}
 use Rattle.node_core.specs.declared.journal.Entry.{Entry}
 use Rattle.world_core.specs.Done.{MarksAnswers}
-use Rattle.world_core.specs.Latest.{longest, told_table, told_from as table_from}
-use Rattle.world_core.specs.Story.{points}
+use Rattle.run_laws.specs.Latest.{longest, told_table, told_from as table_from}
+use Rattle.run_laws.specs.Story.{points}
 use Rattle.world_core.specs.Telling.{calls_of, story_from}
 use Rattle.world_core.proofs.Telling.{calls-story}
 use Rattle.world_core.proofs.story.story.Goals as goal

@@ -1,8 +1,8 @@
 -- The empty journal is a run, so its stories are register stories.
 use Rattle.std.proofs.Common.{ℕ, List, [], sym, subst}
 use Rattle.node_core.specs.Journal.{JournalState}
-use Rattle.world_core.specs.Story.{IsRegisterStory, story}
-use Rattle.world_core.proofs.AllStories.{run_stories}
+use Rattle.run_laws.specs.Story.{IsRegisterStory, story}
+use Rattle.run_laws.proofs.AllStories.{run_stories}
 use Rattle.world_core.proofs.world.World.begin.Goals as goal
 
 pub returns-clause-stories : goal.returns-clause-stories

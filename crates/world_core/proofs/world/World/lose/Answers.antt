@@ -1,8 +1,8 @@
 -- A message that was sent and is marked lost waits no longer.
 use Rattle.std.proofs.Common.{◌≡◌, ◌==◌, ◌&&◌, not, List, true, is_some, sym, ap, ◌∙◌}
 use Rattle.std.specs.Prelude.{Option}
-use Rattle.world_core.specs.declared.envelope.Envelope.{Envelope}
-use Rattle.world_core.specs.Run.{numbered}
+use Rattle.run_laws.specs.declared.envelope.Envelope.{Envelope}
+use Rattle.run_laws.specs.Run.{numbered}
 use Rattle.world_core.specs.Waiting.{is_between}
 use Rattle.world_core.specs.Pairs.{pair_has}
 use Rattle.world_core.proofs.States.{IsInStep-lost}

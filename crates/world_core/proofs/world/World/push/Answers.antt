@@ -9,10 +9,10 @@ use Rattle.node_core.specs.declared.journal.Entry.{Entry}
 use Rattle.node_core.specs.Journal.{JournalState}
 use Rattle.world_core.specs.declared.push_refused.PushRefused.{PushRefused}
 use Rattle.world_core.specs.declared.push_refused.PushRefused.TheVariants.{NoSuchNode, OutOfMemory}
-use Rattle.world_core.specs.Run.{IsRun, entry_of}
-use Rattle.world_core.specs.Story.{IsRegisterStory, story}
+use Rattle.run_laws.specs.Run.{IsRun, entry_of}
+use Rattle.run_laws.specs.Story.{IsRegisterStory, story}
 use Rattle.world_core.specs.World.{WorldState, IsInStep, names_nodes, input_refusal, entries_refusal, entry_refusal, made_refusal, event_refusal, push_refusal, unless_ended}
-use Rattle.world_core.proofs.AllStories.{run_stories}
+use Rattle.run_laws.proofs.AllStories.{run_stories}
 use Rattle.world_core.proofs.States.{within_table, length_states, push_refused, goes_on}
 use Rattle.world_core.proofs.world.World.push.Goals as goal
 

@@ -1,0 +1,11 @@
+pub mod Answers
+pub mod Committed
+pub mod DonePoints
+pub mod GivenUp
+pub mod Latest
+pub mod Rising
+pub mod Run
+pub mod Served
+pub mod Serving
+pub mod Stored
+pub mod Story
