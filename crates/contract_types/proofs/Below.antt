@@ -1,7 +1,7 @@
 -- The numbers below one more number.
-use Rattle.std.proofs.Common.{◌≡◌, ℕ, zero, suc, ◌+◌, ◌<◌, ◌==◌, false, cond, nat_lt, List, [], ◌∷◌, ◌++◌, refl, ap, ◌∙◌, arith}
-use Rattle.std.proofs.lemmas.Bool.{le-ltb, ne_eqb}
-use Rattle.std.specs.List.{AllByRecursion}
+use Rattle.std.proofs.Common.{◌≡◌, ℕ, zero, suc, ◌+◌, ◌<◌, ◌==◌, true, false, ◌&&◌, cond, nat_lt, List, [], ◌∷◌, ◌++◌, refl, ap, ◌∙◌, arith}
+use Rattle.std.proofs.lemmas.Bool.{le-ltb, lt-ltb, ne_eqb}
+use Rattle.std.specs.List.{AllByRecursion, list_all}
 use Rattle.region_map.specs.Nodes.{with_member}
 use Rattle.contract_types.specs.Setup.{nodes_below}
 
@@ -28,3 +28,11 @@ all_below (suc n) = below_push (nodes_below n) n (all_below n)
 
 pub with_member-nodes_below : (n : ℕ) → with_member (nodes_below n) n ≡ nodes_below (n + 1)
 with_member-nodes_below n = with_member_last (nodes_below n) n (all_below n) ∙ ap nodes_below (let e : suc n ≡ n + 1 = omega arith in e)
+
+all_within : (n : ℕ) (xs : List ℕ) → AllBelow n xs → list_all (λ k. nat_lt k n) xs ≡ true
+all_within n [] h = refl
+all_within n (k ∷ ks) h = ap (λ b. b && list_all (λ j. nat_lt j n) ks) (lt-ltb k n h.0) ∙ all_within n ks h.1
+
+-- the numbers below a number are below it
+pub below_within : (n : ℕ) → list_all (λ k. nat_lt k n) (nodes_below n) ≡ true
+below_within n = all_within n (nodes_below n) (all_below n)

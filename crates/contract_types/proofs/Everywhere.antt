@@ -86,13 +86,13 @@ pub record Below {T U : Type 0} (p : T → Region) (q : U → Region) (xs : List
 pub below_of : {T U : Type 0} (p : T → Region) (q : U → Region) (xs : List T) (ys : List U) (test : ℕ → List ℕ → Bool)
     → everywhere p q xs ys test ≡ true → (h : ℕ) (k : List ℕ) → Below p q xs ys test h k
 below_of {T} {U} p q xs ys test e h k =
-    let row : ℕ → Bool = λ i. at_all_bounds p q xs ys (test i) in
-    let outer = and_parts (row 0 && at_hashes p xs row) (at_hashes q ys row) e in
-    let inner = and_parts (row 0) (at_hashes p xs row) outer.0 in
-    let one = near ℕ nat_lt lt_self lt_back lt_chain lt_late (λ i. row i ≡ true) h 0 (λ (x : T). (p x).hash_from) (λ (x : T). (p x).hash_to) xs (le-ltb h 0 (omega arith)) inner.0
-    (all_of (λ x. row (p x).hash_from) (λ x. row (p x).hash_to) xs inner.1) in
-    let two = near ℕ nat_lt lt_self lt_back lt_chain lt_late (λ i. row i ≡ true) h one.point (λ (y : U). (q y).hash_from) (λ (y : U). (q y).hash_to) ys one.reached one.passes
-    (all_of (λ y. row (q y).hash_from) (λ y. row (q y).hash_to) ys outer.1) in
+    let passes_at : ℕ → Bool = λ i. at_all_bounds p q xs ys (test i) in
+    let outer = and_parts (passes_at 0 && at_hashes p xs passes_at) (at_hashes q ys passes_at) e in
+    let inner = and_parts (passes_at 0) (at_hashes p xs passes_at) outer.0 in
+    let one = near ℕ nat_lt lt_self lt_back lt_chain lt_late (λ i. passes_at i ≡ true) h 0 (λ (x : T). (p x).hash_from) (λ (x : T). (p x).hash_to) xs (le-ltb h 0 (omega arith)) inner.0
+    (all_of (λ x. passes_at (p x).hash_from) (λ x. passes_at (p x).hash_to) xs inner.1) in
+    let two = near ℕ nat_lt lt_self lt_back lt_chain lt_late (λ i. passes_at i ≡ true) h one.point (λ (y : U). (q y).hash_from) (λ (y : U). (q y).hash_to) ys one.reached one.passes
+    (all_of (λ y. passes_at (q y).hash_from) (λ y. passes_at (q y).hash_to) ys outer.1) in
     let i = two.point in
     let hash_xs = nearer ℕ nat_lt lt_self lt_back lt_chain lt_late h one.point i (λ (x : T). (p x).hash_from) (λ (x : T). (p x).hash_to) xs two.reached two.above one.sides in
     let part = and_parts (test i [] && at_bounds p xs (test i)) (at_bounds q ys (test i)) two.passes in
@@ -124,9 +124,9 @@ from_everywhere rule p q xs ys e h k = from (below_of p q xs ys (allows_at rule 
 pub fails_somewhere : {T U : Type 0} (p : T → Region) (q : U → Region) (xs : List T) (ys : List U) (test : ℕ → List ℕ → Bool)
     → everywhere p q xs ys test ≡ false → (h : ℕ) × (k : List ℕ) × (test h k ≡ false)
 fails_somewhere {T} {U} p q xs ys test e =
-    let row : ℕ → Bool = λ i. at_all_bounds p q xs ys (test i) in
-    elim (and_cases (row 0 && at_hashes p xs row) (at_hashes q ys row) e) [
-      | inl a ↦ elim (and_cases (row 0) (at_hashes p xs row) a) [
+    let passes_at : ℕ → Bool = λ i. at_all_bounds p q xs ys (test i) in
+    elim (and_cases (passes_at 0 && at_hashes p xs passes_at) (at_hashes q ys passes_at) e) [
+      | inl a ↦ elim (and_cases (passes_at 0) (at_hashes p xs passes_at) a) [
         | inl b ↦ in_row test 0 b
         | inr b ↦ at_hash p xs test b
       ]

@@ -1,4 +1,4 @@
-mod Below
+pub mod Below
 pub mod Begins
 pub mod Bounds
 pub mod Everywhere

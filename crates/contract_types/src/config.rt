@@ -187,8 +187,8 @@ impl TableConfig {
     }
 }
 
-/// The nodes with numbers below this one.
-fn nodes_below(nodes: u8) -> NodeSet
+/// The nodes with numbers below this one, at most 64.
+pub fn nodes_below(nodes: u8) -> NodeSet
     requires { nodes ≤ 64 }
     ensures { result ≡ nodes_below nodes }
 {

@@ -13,7 +13,7 @@
 
 pub use ack::{Ack, ServerAck};
 pub use change::{Change, Contracts, Ids};
-pub use config::{ConfigRefused, MAX_SHARDS, ShardConfig, TableConfig};
+pub use config::{ConfigRefused, MAX_SHARDS, ShardConfig, TableConfig, nodes_below};
 pub use contract::{Contract, Holder};
 pub use counts::Counts;
 pub use first::{first_contract, setup_id};

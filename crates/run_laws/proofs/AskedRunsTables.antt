@@ -1,7 +1,6 @@
 -- Where a log only registers branches, its table has the contracts with which it began; and each of them has an id of its own.
-use Rattle.std.proofs.Common.{◌≡◌, ◌∙◌, ℕ, zero, suc, ◌+◌, ◌≤◌, cond, not, List, [], ◌∷◌, ◌++◌, length, take, inl, inr, refl, sym, ap, arith}
+use Rattle.std.proofs.Common.{◌≡◌, ◌∙◌, ℕ, zero, suc, ◌+◌, ◌≤◌, List, [], ◌∷◌, ◌++◌, length, take, inl, inr, refl, sym, ap, subst, arith}
 use Rattle.std.proofs.lemmas.List.{take-append-le}
-use Rattle.std.proofs.lemmas.Bool.{cond_both}
 use Rattle.region_map.specs.declared.id.Id.{Id}
 use Rattle.raft_vote.specs.declared.log.LogEntry.{LogEntry}
 use Rattle.contract_types.specs.declared.change.Change.{Change}
@@ -10,10 +9,9 @@ use Rattle.contract_types.specs.declared.config.ShardConfig.{ShardConfig}
 use Rattle.contract_types.specs.declared.contract.Contract.{Contract}
 use Rattle.contract_types.specs.Configs.{ConfigState}
 use Rattle.contract_types.specs.Tables.{Table, first_contracts}
-use Rattle.table_apply.specs.declared.applied.Condition.TheVariants.{IdNew, Tenure, BasedOn}
-use Rattle.table_apply.specs.Conditions.{has_tenure, is_based_on, is_new_branch}
-use Rattle.table_apply.specs.Effects.{Effect, skipped, taken, birth, applied_at}
+use Rattle.table_apply.specs.Effects.{applied_at}
 use Rattle.table_apply.specs.Runs.{change_at, table_at}
+use Rattle.table_apply.proofs.Steps.{table_after}
 use Rattle.table_log.specs.Fitting.{changes_of}
 use Rattle.table_log.specs.Logs.{LogState, table_of}
 use Rattle.table_log.proofs.Prefixes.{same_entries}
@@ -33,18 +31,10 @@ pub record SameContracts (s t : Table) : Type 0 where
   pub contracts : t.contracts ≡ s.contracts
 
 contracts_left : (t : Table) (index : ℕ) (change : Change) → OnlyRegisters change → SameContracts t (applied_at t index change).table
-contracts_left t index Noop h = record { config = refl; contracts = refl }
-contracts_left t index (SetConfig config) h = absurd h
-contracts_left t index (NewContracts removed added) h = absurd h
-contracts_left t index (RegisterBranch branch region tenure maker based_on origin) h =
-    let Q : Effect → Type 0 = λ e. SameContracts t e.table in
+contracts_left t index change h =
     let same : SameContracts t t = record { config = refl; contracts = refl } in
-    let last : Effect = taken (record t { history = (branch, birth region tenure origin) ∷ t.history }) in
-    let third : Effect = cond (not (is_new_branch t.history branch origin.pieces)) (skipped t IdNew) last in
-    let second : Effect = cond (not (is_based_on t.config.hashes t.history region based_on)) (skipped t BasedOn) third in
-    cond_both (not (has_tenure t.contracts region tenure maker)) (skipped t Tenure) second Q (λ _. same) (λ _.
-    cond_both (not (is_based_on t.config.hashes t.history region based_on)) (skipped t BasedOn) third Q (λ _. same) (λ _.
-    cond_both (not (is_new_branch t.history branch origin.pieces)) (skipped t IdNew) last Q (λ _. same) (λ _. record { config = refl; contracts = refl })))
+    table_after (SameContracts t) t index change same (λ config is. absurd (subst OnlyRegisters is h)) (λ removed added is a. absurd (subst OnlyRegisters is h))
+    (λ branch region tenure maker based_on origin is j. record { config = refl; contracts = refl })
 
 each_registers : (log : List (LogEntry Change)) (place : ℕ) → Each OnlyRegisters log → OnlyRegisters (change_at (changes_of log) place)
 each_registers [] place h = tt

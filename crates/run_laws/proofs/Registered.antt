@@ -1,6 +1,6 @@
 -- How branches came into a table: they are the first ones, or a change of the log registered them.
-use Rattle.std.proofs.Common.{◌≡◌, ◌==◌, ◌⊎◌, ◌<◌, ℕ, zero, suc, true, false, cond, ◌&&◌, not, List, [], ◌∷◌, ◌++◌, Option, Some, None, inl, inr, refl, sym, ap, ◌∙◌, subst, arith, append_assoc}
-use Rattle.std.proofs.lemmas.Bool.{and_parts, not-false, cond_both, both_ways, eqb-true, false_from_ne_true}
+use Rattle.std.proofs.Common.{◌≡◌, ◌==◌, ◌⊎◌, ◌<◌, ℕ, zero, suc, true, false, cond, ◌&&◌, List, [], ◌∷◌, ◌++◌, Option, Some, None, inl, inr, refl, sym, ap, ◌∙◌, subst, arith, append_assoc}
+use Rattle.std.proofs.lemmas.Bool.{and_parts, both_ways, eqb-true, false_from_ne_true}
 use Rattle.region_map.specs.declared.id.Id.{Id}
 use Rattle.region_map.specs.declared.id.NodeId.{NodeId}
 use Rattle.region_map.specs.declared.region.Region.{Region}
@@ -11,20 +11,20 @@ use Rattle.branch_history.specs.declared.history.BranchBirth.{BranchBirth}
 use Rattle.branch_history.specs.Paths.{Branches, id_eq}
 use Rattle.branch_history.specs.Histories.{knows}
 use Rattle.contract_types.specs.Setup.{SetupState, IsSetup}
-use Rattle.contract_types.specs.Configs.{ConfigState}
 use Rattle.contract_types.specs.declared.change.Change.{Change}
-use Rattle.contract_types.specs.declared.change.Change.TheVariants.{Noop, SetConfig, NewContracts, RegisterBranch}
+use Rattle.contract_types.specs.declared.change.Change.TheVariants.{RegisterBranch}
 use Rattle.contract_types.specs.declared.contract.Contract.{Contract}
 use Rattle.contract_types.specs.Tables.{Table, branch_at, setup as first_table}
-use Rattle.table_apply.specs.declared.applied.Condition.TheVariants.{Removed, Regions, Primary, IdNew, Tenure, BasedOn}
-use Rattle.table_apply.specs.Conditions.{is_held_by, same_regions, leaving, are_current, tile, have_primaries, are_new, has_tenure, is_based_on, is_new_branch}
-use Rattle.table_apply.specs.Effects.{Effect, skipped, taken, replaced, birth, new_contracts, register, applied_at}
+use Rattle.table_apply.specs.Conditions.{is_held_by, same_regions, has_tenure, is_based_on}
+use Rattle.table_apply.specs.Effects.{birth, applied_at}
 use Rattle.table_apply.specs.Runs.{change_at, table_at, AreFounded}
 use Rattle.table_apply.proofs.Based.{id_same, id_self, region_same}
 use Rattle.table_apply.proofs.Meaning.{based_means}
 use Rattle.table_apply.proofs.Pairs.{Among, among_any}
+use Rattle.table_apply.proofs.Steps.{table_after}
 use Rattle.table_apply.proofs.Tables.{founded}
 use Rattle.table_log.specs.Fitting.{fits}
+use Rattle.table_log.proofs.Holding.{fits_is, hashes_at}
 use Rattle.run_laws.specs.Story.{IsIn}
 use Rattle.run_laws.proofs.Asked.{upto, rest_of, Stale}
 
@@ -56,73 +56,23 @@ record Grows (t : Table) (change : Change) (after : Branches) : Type 0 where
   based : is_based_on t.config.hashes t.history region based_on ≡ true
 
 grows : (t : Table) (index : ℕ) (change : Change) → ((applied_at t index change).table.history ≡ t.history) ⊎ Grows t change (applied_at t index change).table.history
-grows t index Noop = inl refl
-grows t index (SetConfig config) = inl refl
-grows t index (NewContracts removed added) =
-    let Q : Effect → Type 0 = λ e. e.table.history ≡ t.history in
-    let last : Effect = taken (record t { contracts = replaced t.contracts index removed added }) in
-    let fourth : Effect = cond (not (are_new t.contracts added)) (skipped t IdNew) last in
-    let third : Effect = cond (not (have_primaries (leaving t.contracts removed) added)) (skipped t Primary) fourth in
-    let second : Effect = cond (not (tile added (leaving t.contracts removed))) (skipped t Regions) third in
-    inl (cond_both (not (are_current t.contracts removed)) (skipped t Removed) second Q (λ e. refl) (λ a.
-    cond_both (not (tile added (leaving t.contracts removed))) (skipped t Regions) third Q (λ e. refl) (λ b.
-    cond_both (not (have_primaries (leaving t.contracts removed) added)) (skipped t Primary) fourth Q (λ e. refl) (λ c.
-    cond_both (not (are_new t.contracts added)) (skipped t IdNew) last Q (λ e. refl) (λ d. refl)))))
-grows t index (RegisterBranch branch region tenure maker based_on origin) =
-    let Q : Effect → Type 0 = λ e. (e.table.history ≡ t.history) ⊎ Grows t (RegisterBranch branch region tenure maker based_on origin) e.table.history in
-    let last : Effect = taken (record t { history = (branch, birth region tenure origin) ∷ t.history }) in
-    let third : Effect = cond (not (is_new_branch t.history branch origin.pieces)) (skipped t IdNew) last in
-    let second : Effect = cond (not (is_based_on t.config.hashes t.history region based_on)) (skipped t BasedOn) third in
-    cond_both (not (has_tenure t.contracts region tenure maker)) (skipped t Tenure) second Q (λ e. inl refl) (λ a.
-    cond_both (not (is_based_on t.config.hashes t.history region based_on)) (skipped t BasedOn) third Q (λ e. inl refl) (λ b.
-    cond_both (not (is_new_branch t.history branch origin.pieces)) (skipped t IdNew) last Q (λ e. inl refl) (λ c. inr (record {
+grows t index change =
+    table_after (λ (u : Table). (u.history ≡ t.history) ⊎ Grows t change u.history) t index change (inl refl) (λ config is. inl refl) (λ removed added is a. inl refl)
+    (λ branch region tenure maker based_on origin is j. inr (record {
       branch = branch;
       region = region;
       tenure = tenure;
       maker = maker;
       based_on = based_on;
       origin = origin;
-      change_is = refl;
+      change_is = is;
       history_is = refl;
-      held = not-false _ a;
-      based = not-false _ b;
-    }))))
-
--- ---- the table keeps how many hashes it has
-
-contracts_only : (t : Table) (index : ℕ) (removed : List Id) (added : List Contract) → (new_contracts t index removed added).table.config ≡ t.config
-contracts_only t index removed added =
-    let Q : Effect → Type 0 = λ e. e.table.config ≡ t.config in
-    let last : Effect = taken (record t { contracts = replaced t.contracts index removed added }) in
-    let fourth : Effect = cond (not (are_new t.contracts added)) (skipped t IdNew) last in
-    let third : Effect = cond (not (have_primaries (leaving t.contracts removed) added)) (skipped t Primary) fourth in
-    let second : Effect = cond (not (tile added (leaving t.contracts removed))) (skipped t Regions) third in
-    cond_both (not (are_current t.contracts removed)) (skipped t Removed) second Q (λ e. refl) (λ a.
-    cond_both (not (tile added (leaving t.contracts removed))) (skipped t Regions) third Q (λ e. refl) (λ b.
-    cond_both (not (have_primaries (leaving t.contracts removed) added)) (skipped t Primary) fourth Q (λ e. refl) (λ c.
-    cond_both (not (are_new t.contracts added)) (skipped t IdNew) last Q (λ e. refl) (λ d. refl))))
-
-branches_only : (t : Table) (branch : Id) (region : Region) (tenure : ℕ) (maker : NodeId) (based_on : Pieced Id) (origin : Pieced Version)
-    → (register t branch region tenure maker based_on origin).table.config ≡ t.config
-branches_only t branch region tenure maker based_on origin =
-    let Q : Effect → Type 0 = λ e. e.table.config ≡ t.config in
-    let last : Effect = taken (record t { history = (branch, birth region tenure origin) ∷ t.history }) in
-    let third : Effect = cond (not (is_new_branch t.history branch origin.pieces)) (skipped t IdNew) last in
-    let second : Effect = cond (not (is_based_on t.config.hashes t.history region based_on)) (skipped t BasedOn) third in
-    cond_both (not (has_tenure t.contracts region tenure maker)) (skipped t Tenure) second Q (λ e. refl) (λ a.
-    cond_both (not (is_based_on t.config.hashes t.history region based_on)) (skipped t BasedOn) third Q (λ e. refl) (λ b.
-    cond_both (not (is_new_branch t.history branch origin.pieces)) (skipped t IdNew) last Q (λ e. refl) (λ c. refl)))
-
-hashes_next : (hashes : ℕ) (t : Table) (index : ℕ) (change : Change) → fits hashes change ≡ true → t.config.hashes ≡ hashes → (applied_at t index change).table.config.hashes ≡ hashes
-hashes_next hashes t index Noop f e = e
-hashes_next hashes t index (SetConfig config) f e = eqb-true config.hashes hashes f
-hashes_next hashes t index (NewContracts removed added) f e = ap (λ (c : ConfigState). c.hashes) (contracts_only t index removed added) ∙ e
-hashes_next hashes t index (RegisterBranch branch region tenure maker based_on origin) f e =
-    ap (λ (c : ConfigState). c.hashes) (branches_only t branch region tenure maker based_on origin) ∙ e
+      held = j.held;
+      based = j.based;
+    }))
 
 hashes_kept : (setup : SetupState) (changes : List Change) → ((i : ℕ) → fits setup.hashes (change_at changes i) ≡ true) → (w : ℕ) → (table_at setup changes w).config.hashes ≡ setup.hashes
-hashes_kept setup changes fitting zero = refl
-hashes_kept setup changes fitting (suc w) = hashes_next setup.hashes (table_at setup changes w) (suc w) (change_at changes w) (fitting w) (hashes_kept setup changes fitting w)
+hashes_kept setup changes fitting w = hashes_at setup changes w (λ i. fits_is setup.hashes (change_at changes i) (fitting i))
 
 -- ---- what is known of a part of a history
 

@@ -1,5 +1,5 @@
 -- From where on contracts are in force, and at which timestamp branches begin.
-use Rattle.std.proofs.Common.{◌≡◌, ℕ, zero, suc, ◌+◌, ◌<◌, ◌≤◌, true, false, cond, not, max, List, [], ◌∷◌, Option, Some, None, inl, inr, refl, sym, ap, ◌∙◌, subst, arith}
+use Rattle.std.proofs.Common.{◌≡◌, ℕ, zero, suc, ◌+◌, ◌≤◌, true, false, cond, List, [], ◌∷◌, Option, Some, inl, inr, refl, sym, subst, arith}
 use Rattle.std.specs.List.{AllByRecursion}
 use Rattle.std.proofs.lemmas.Bool.{cases_lt, cond_both}
 use Rattle.region_map.specs.declared.id.Id.{Id}
@@ -12,14 +12,12 @@ use Rattle.branch_history.specs.Paths.{Branches, id_eq, or_zero, origin_at}
 use Rattle.branch_history.specs.Histories.{birth_of}
 use Rattle.contract_types.specs.declared.contract.Contract.{Contract}
 use Rattle.contract_types.specs.declared.change.Change.{Change}
-use Rattle.contract_types.specs.declared.change.Change.TheVariants.{Noop, SetConfig, NewContracts, RegisterBranch}
 use Rattle.contract_types.specs.declared.config.ShardConfig.{ShardConfig}
 use Rattle.contract_types.specs.Configs.{ConfigState, IsConfig}
 use Rattle.contract_types.specs.Tables.{Table, first_id, first_birth, first_branches}
-use Rattle.table_apply.specs.declared.applied.Condition.TheVariants.{Removed, Regions, Primary, IdNew, Tenure, BasedOn}
-use Rattle.table_apply.specs.Conditions.{leaving, are_current, tile, have_primaries, are_new, has_tenure, is_based_on, is_new_branch}
-use Rattle.table_apply.specs.Effects.{Effect, skipped, taken, replaced, birth, greatest, applied_at}
+use Rattle.table_apply.specs.Effects.{greatest}
 use Rattle.table_apply.specs.Runs.{change_at, table_at, contract_at}
+use Rattle.table_apply.proofs.Steps.{table_after}
 use Rattle.table_apply.proofs.Tables.{follows}
 
 pub in_force : (config : ConfigState) (changes : List Change) (w u h : ℕ) (k : List ℕ) (c : Contract) → IsConfig config
@@ -46,31 +44,6 @@ in_force config changes (suc w) u h k c ok e s l =
 abbrev begins_at_greatest : Id × BranchBirth → Type 0
 begins_at_greatest b = b.1.initial ≡ greatest b.1.origin.pieces
 
--- a change leaves the history, or adds a branch that begins at the greatest timestamp of its origin
-begun_after : (P : Branches → Type 0) (t : Table) (index : ℕ) (change : Change) → P t.history
-    → ((b : Id × BranchBirth) → begins_at_greatest b → P (b ∷ t.history)) → P (applied_at t index change).table.history
-begun_after P t index Noop p f = p
-begun_after P t index (SetConfig config) p f = p
-begun_after P t index (NewContracts removed added) p f =
-    let Q : Effect → Type 0 = λ e. P e.table.history in
-    let last : Effect = taken (record t { contracts = replaced t.contracts index removed added }) in
-    let fourth : Effect = cond (not (are_new t.contracts added)) (skipped t IdNew) last in
-    let third : Effect = cond (not (have_primaries (leaving t.contracts removed) added)) (skipped t Primary) fourth in
-    let second : Effect = cond (not (tile added (leaving t.contracts removed))) (skipped t Regions) third in
-    cond_both (not (are_current t.contracts removed)) (skipped t Removed) second Q (λ e. p) (λ a.
-    cond_both (not (tile added (leaving t.contracts removed))) (skipped t Regions) third Q (λ e. p) (λ b.
-    cond_both (not (have_primaries (leaving t.contracts removed) added)) (skipped t Primary) fourth Q (λ e. p) (λ c.
-    cond_both (not (are_new t.contracts added)) (skipped t IdNew) last Q (λ e. p) (λ d. p))))
-begun_after P t index (RegisterBranch branch region tenure maker based_on origin) p f =
-    let Q : Effect → Type 0 = λ e. P e.table.history in
-    let last : Effect = taken (record t { history = (branch, birth region tenure origin) ∷ t.history }) in
-    let third : Effect = cond (not (is_new_branch t.history branch origin.pieces)) (skipped t IdNew) last in
-    let second : Effect = cond (not (is_based_on t.config.hashes t.history region based_on)) (skipped t BasedOn) third in
-    cond_both (not (has_tenure t.contracts region tenure maker)) (skipped t Tenure) second Q (λ e. p) (λ a.
-    cond_both (not (is_based_on t.config.hashes t.history region based_on)) (skipped t BasedOn) third Q (λ e. p) (λ b.
-    cond_both (not (is_new_branch t.history branch origin.pieces)) (skipped t IdNew) last Q (λ e. p) (λ c.
-    f (branch, birth region tenure origin) refl)))
-
 first_begun : (hashes place : ℕ) (shards : List ShardConfig) (older : Branches) → AllByRecursion begins_at_greatest older
     → AllByRecursion begins_at_greatest (first_branches hashes place shards older)
 first_begun hashes place [] older a = a
@@ -80,7 +53,8 @@ all_begun : (config : ConfigState) (changes : List Change) (w : ℕ) → AllByRe
 all_begun config changes zero = first_begun config.hashes 0 config.shards [] tt
 all_begun config changes (suc w) =
     let before = all_begun config changes w in
-    begun_after (λ bs. AllByRecursion begins_at_greatest bs) (table_at config changes w) (suc w) (change_at changes w) before (λ b e. (e, before))
+    table_after (λ (t : Table). AllByRecursion begins_at_greatest t.history) (table_at config changes w) (suc w) (change_at changes w) before
+    (λ config is. before) (λ removed added is a. before) (λ branch region tenure maker based_on origin is j. (refl, before))
 
 birth_begun : (bs : Branches) (id : Id) (b : BranchBirth) → AllByRecursion begins_at_greatest bs → birth_of bs id ≡ Some b → b.initial ≡ greatest b.origin.pieces
 birth_begun [] id b a e = absurd (cc)

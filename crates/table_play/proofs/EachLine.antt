@@ -28,7 +28,7 @@ use Rattle.script_text.proofs.SoundLaws.{accepted_sound}
 use Rattle.report_text.specs.declared.ending.EventRefused.TheVariants as refused
 use Rattle.table_play.specs.Play.{Played, is_over, with_refusal, with_down, refused_as, play_event, play_arrival, play_delivery, play_loss, only_of, flush_next, flush_by, play_flush, most_deliveries, play_tick, play_ticks, play_round, play_rounds, play_word, unplayed}
 use Rattle.table_play.specs.Lines.{AddsEntry, Arrives, ArrivesAt, Delivers, Then, FlushesNext, Flushes, Ticks, TicksEach, Settles, Does, AllDo}
-use Rattle.table_play.proofs.Below.{below_within}
+use Rattle.contract_types.proofs.Below.{below_within}
 
 -- what the entries request was given by the items before
 record Reached (before : List ScriptItem) (past : List Entry) : Type 0 where

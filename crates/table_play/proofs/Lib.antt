@@ -1,4 +1,3 @@
-pub mod Below
 pub mod Complete
 pub mod EachLine
 pub mod Flushes

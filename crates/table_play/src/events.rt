@@ -3,12 +3,11 @@ ghost use Rattle.std.specs.Prelude.{◌≡◌, ◌<◌, ◌++◌, ◌∷◌, [],
 ghost use Rattle.std.specs.List.{list_all};
 ghost use Rattle.node_core.specs.declared.journal.Entry.{Entry};
 ghost use Rattle.run_laws.specs.Run.{message_at};
-ghost use Rattle.contract_types.specs.Setup.{nodes_below};
 ghost use Rattle.script_text.specs.Sound.{fits_table, fits_only};
-ghost use Rattle.table_play.specs.Play.{is_over, play_event, play_arrival, play_delivery, play_loss, play_losses, play_flush, play_tick, play_ticks, play_round, play_rounds, play_word, play_items, only_of};
+ghost use Rattle.table_play.specs.Play.{is_over, play_event, play_arrival, play_delivery, play_loss, play_flush, play_tick, play_ticks, play_round, play_rounds, play_word, play_items, only_of};
 ghost use Rattle.table_play.specs.Steps.{played_by, played_at, HasPartOf, asked_in, down_as};
 
-use contract_types::{Setup, Which};
+use contract_types::{Setup, Which, nodes_below};
 use exec_types::Input;
 use memory::OutOfMemory;
 use region_map::{NodeId, NodeSet};
@@ -320,18 +319,6 @@ fn settle(
         }
     }
     Ok(None)
-}
-
-/// The nodes with numbers below this one.
-fn nodes_below(nodes: u8) -> NodeSet
-    requires { nodes < 8 }
-    ensures value { result ≡ nodes_below nodes }
-{
-    let mut set = NodeSet::empty();
-    for node in 0..nodes {
-        set = set.with(NodeId(node));
-    }
-    set
 }
 
 /// The nodes that a word speaks of: where it names none, all of the table.

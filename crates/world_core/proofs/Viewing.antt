@@ -1,14 +1,9 @@
--- Laws of the changes that a journal tells, and of the table that follows from them.
-use Rattle.std.proofs.Common.{◌≡◌, ℕ, suc, ◌+◌, true, List, [], ◌∷◌, ◌++◌, refl, ap, sym, subst, ◌∙◌, arith, append_assoc, append-nil}
-use Rattle.std.proofs.lemmas.Bool.{eqb-true}
+-- Laws of the changes that a journal tells.
+use Rattle.std.proofs.Common.{◌≡◌, ℕ, suc, ◌+◌, List, [], ◌∷◌, ◌++◌, refl, ap, sym, ◌∙◌, arith, append_assoc, append-nil}
 use Rattle.std.proofs.lemmas.Bool.Decides.{nat_tests}
 use Rattle.contract_types.specs.declared.change.Change.{Change}
-use Rattle.contract_types.specs.declared.change.Change.TheVariants.{Noop, SetConfig, NewContracts, RegisterBranch}
 use Rattle.contract_types.specs.Setup.{nodes_below}
-use Rattle.contract_types.specs.Tables.{Table}
 use Rattle.table_apply.specs.declared.applied.Applied.{Applied}
-use Rattle.table_apply.specs.Effects.{applied_at, FitsTable}
-use Rattle.table_log.specs.Fitting.{fits}
 use Rattle.exec_types.specs.declared.output.Output.{Output}
 use Rattle.exec_types.specs.declared.output.Output.TheVariants.{Message, Dispatched, Viewed, Answer}
 use Rattle.node_core.specs.declared.journal.Entry.{Entry}
@@ -48,25 +43,3 @@ pub longest-more : (past : List Entry) (n : ℕ) (a b : List (Change × Applied)
 longest-more past n a b before viewed =
     let next : suc n ≡ n + 1 = omega arith in
     ap (λ xs. longer xs b) before ∙ ap (longer (longest_of past (nodes_below n))) viewed ∙ sym (longest_of-append past (nodes_below n) n) ∙ ap (λ m. longest_of past (nodes_below m)) next
-
--- ---- the table
-
-fits_is : (hashes : ℕ) (change : Change) → fits hashes change ≡ true → FitsTable hashes change
-fits_is hashes Noop e = tt
-fits_is hashes (SetConfig config) e = eqb-true config.hashes hashes e
-fits_is hashes (NewContracts removed added) e = tt
-fits_is hashes (RegisterBranch branch region tenure maker based_on origin) e = eqb-true origin.hashes hashes e
-
--- a change that fits may be applied
-pub fits-table : (hashes : ℕ) (t : Table) (change : Change) → t.config.hashes ≡ hashes → fits hashes change ≡ true → FitsTable t.config.hashes change
-fits-table hashes t change same e = subst (λ n. FitsTable n change) (sym same) (fits_is hashes change e)
-
-hashes_after : (t : Table) (index : ℕ) (change : Change) → FitsTable t.config.hashes change → (applied_at t index change).table.config.hashes ≡ t.config.hashes
-hashes_after t index Noop f = refl
-hashes_after t index (SetConfig config) f = f
-hashes_after t index (NewContracts removed added) f = grind (arith, nat_tests)
-hashes_after t index (RegisterBranch branch region tenure maker based_on origin) f = grind (arith, nat_tests)
-
--- and the table keeps its hashes
-pub hashes-stay : (hashes : ℕ) (t : Table) (index : ℕ) (change : Change) → t.config.hashes ≡ hashes → fits hashes change ≡ true → (applied_at t index change).table.config.hashes ≡ hashes
-hashes-stay hashes t index change same e = hashes_after t index change (fits-table hashes t change same e) ∙ same
