@@ -5,9 +5,10 @@ use Rattle.region_map.specs.declared.id.Id.{Id}
 use Rattle.region_map.specs.declared.region.Region.{Region}
 use Rattle.region_map.specs.Regions.{in_region}
 use Rattle.region_map.specs.Maps.{value_at}
+use Rattle.region_map.specs.Equal.{same_id}
 use Rattle.branch_history.specs.declared.version.Version.{Version}
 use Rattle.branch_history.specs.declared.history.BranchBirth.{BranchBirth}
-use Rattle.branch_history.specs.Paths.{Branches, id_eq, branch_is, is_branch, is_zero, or_zero, origin_at, is_on}
+use Rattle.branch_history.specs.Paths.{Branches, branch_is, is_branch, is_zero, or_zero, origin_at, is_on}
 use Rattle.branch_history.specs.Histories.{knows_branch, knows_origins, birth_of, IsHistory}
 use Rattle.branch_history.proofs.PathLaws.{id_same, id_self, other_is, inside_is, outside_is, knows_more, knows_own, path_stays}
 
@@ -48,25 +49,25 @@ origin_known bs (p ∷ ps) h k e =
 
 -- ---- where a birth stands
 
-pub id_back : (a b : Id) → id_eq a b ≡ true → id_eq b a ≡ true
-id_back a b e = subst (λ x. id_eq x a ≡ true) (id_same a b e) (id_self a)
+pub id_back : (a b : Id) → same_id a b ≡ true → same_id b a ≡ true
+id_back a b e = subst (λ x. same_id x a ≡ true) (id_same a b e) (id_self a)
 
 some_same : (a b : BranchBirth) → Some a ≡ Some b → a ≡ b
 some_same a b e = cc
 
 module _ (b : Id × BranchBirth) (bs : Branches) (id : Id) (birth : BranchBirth) (e : birth_of (b ∷ bs) id ≡ Some birth) where
-  pub first_birth : id_eq b.0 id ≡ true → b.1 ≡ birth
+  pub first_birth : same_id b.0 id ≡ true → b.1 ≡ birth
   first_birth t = some_same b.1 birth (sym (ap (λ c. cond c (Some b.1) (birth_of bs id)) t) ∙ e)
 
-  pub later_birth : id_eq b.0 id ≡ false → birth_of bs id ≡ Some birth
+  pub later_birth : same_id b.0 id ≡ false → birth_of bs id ≡ Some birth
   later_birth f = sym (ap (λ c. cond c (Some b.1) (birth_of bs id)) f) ∙ e
 
-  first_of : (v : Version) → v.branch ≡ Some id → id_eq b.0 id ≡ true → is_branch v b.0 ≡ true
+  first_of : (v : Version) → v.branch ≡ Some id → same_id b.0 id ≡ true → is_branch v b.0 ≡ true
   first_of v o t = ap (λ x. branch_is x b.0) o ∙ id_back b.0 id t
 
-  later_of : (v : Version) → v.branch ≡ Some id → id_eq b.0 id ≡ false → is_branch v b.0 ≡ false
+  later_of : (v : Version) → v.branch ≡ Some id → same_id b.0 id ≡ false → is_branch v b.0 ≡ false
   later_of v o f =
-      elim (cases_Bool (id_eq id b.0)) [
+      elim (cases_Bool (same_id id b.0)) [
         | inl t ↦ absurd (both_ways _ f (id_back id b.0 t))
         | inr g ↦ ap (λ x. branch_is x b.0) o ∙ g
       ]
@@ -76,7 +77,7 @@ pub birth_known : (bs : Branches) (h : ℕ) (k : List ℕ) (id : Id) (birth : Br
 birth_known [] h k id birth i e = absurd (cc)
 birth_known (b ∷ bs) h k id birth i e =
     knows_more b bs (origin_at birth h k).branch
-    (elim (cases_Bool (id_eq b.0 id)) [
+    (elim (cases_Bool (same_id b.0 id)) [
       | inl t ↦ subst (λ y. knows_branch bs (origin_at y h k).branch ≡ true) (first_birth b bs id birth e t) (origin_known bs b.1.origin.pieces h k i.1)
       | inr f ↦ birth_known bs h k id birth i.3 (later_birth b bs id birth e f)
     ])
@@ -85,7 +86,7 @@ pub outside_birth : (bs : Branches) (h : ℕ) (k : List ℕ) (id : Id) (birth : 
     → is_on bs h k v x ≡ is_zero x
 outside_birth [] h k id birth v x e o r = absurd (cc)
 outside_birth (b ∷ bs) h k id birth v x e o r =
-    elim (cases_Bool (id_eq b.0 id)) [
+    elim (cases_Bool (same_id b.0 id)) [
       | inl t ↦ outside_is b bs h k v x (first_of b bs id birth e v o t) (subst (λ y. in_region y.region h k ≡ false) (sym (first_birth b bs id birth e t)) r)
       | inr f ↦ other_is b bs h k v x (later_of b bs id birth e v o f) ∙ outside_birth bs h k id birth v x (later_birth b bs id birth e f) o r
     ]
@@ -108,7 +109,7 @@ pub inside_birth : (bs : Branches) (h : ℕ) (k : List ℕ) (id : Id) (birth : B
     → is_on bs h k v x ≡ by_birth bs h k id birth v x
 inside_birth [] h k id birth v x i e o r = absurd (cc)
 inside_birth (b ∷ bs) h k id birth v x i e o r =
-    elim (cases_Bool (id_eq b.0 id)) [
+    elim (cases_Bool (same_id b.0 id)) [
       | inl t ↦
           let same = first_birth b bs id birth e t in
           subst (λ (n : Id). is_on (b ∷ bs) h k v x ≡ by_birth (b ∷ bs) h k n birth v x) (id_same b.0 id t)

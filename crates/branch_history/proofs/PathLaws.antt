@@ -1,26 +1,21 @@
 -- Laws of paths.
 use Rattle.std.proofs.Common.{◌≡◌, ℕ, ◌≤◌, ◌⊎◌, Bool, true, false, cond, ◌&&◌, nat_le, List, [], ◌∷◌, Option, Some, None, inl, inr, refl, sym, ap, ◌∙◌, subst, arith}
-use Rattle.std.proofs.lemmas.Bool.{cases_Bool, both_ways, and_parts, and_from, eqb-true, eq-eqb, leb-true, le-leb, cases_lt}
+use Rattle.std.proofs.lemmas.Bool.{cases_Bool, both_ways, and_parts, and_from, eqb-true, leb-true, le-leb, cases_lt}
 use Rattle.region_map.specs.declared.id.Id.{Id}
 use Rattle.region_map.specs.Regions.{in_region}
+use Rattle.region_map.specs.Equal.{same_id, id_decides}
 use Rattle.branch_history.specs.declared.version.Version.{Version}
 use Rattle.branch_history.specs.declared.history.BranchBirth.{BranchBirth}
-use Rattle.branch_history.specs.Paths.{Branches, id_eq, branch_is, is_branch, no_branch, is_zero, zero, origin_at, is_on}
+use Rattle.branch_history.specs.Paths.{Branches, branch_is, is_branch, no_branch, is_zero, zero, origin_at, is_on}
 use Rattle.branch_history.specs.Histories.{knows, knows_branch, IsHistory}
 
 -- ---- ids and the zero version
 
-pub id_same : (a b : Id) → id_eq a b ≡ true → a ≡ b
-id_same a b e =
-    let p = and_parts _ _ e in
-    let q = and_parts _ _ p.0 in
-    let n = eqb-true a.node.0 b.node.0 q.0 in
-    let l = eqb-true a.life b.life q.1 in
-    let c = eqb-true a.counter b.counter p.1 in
-    λ i. record { node = record { 0 = n i }; life = l i; counter = c i }
+pub id_same : (a b : Id) → same_id a b ≡ true → a ≡ b
+id_same a b = (id_decides a b).0
 
-pub id_self : (a : Id) → id_eq a a ≡ true
-id_self a = and_from _ _ (and_from _ _ (eq-eqb a.node.0 a.node.0 refl) (eq-eqb a.life a.life refl)) (eq-eqb a.counter a.counter refl)
+pub id_self : (a : Id) → same_id a a ≡ true
+id_self a = (id_decides a a).1 refl
 
 pub of_branch : (o : Option Id) (id : Id) → branch_is o id ≡ true → o ≡ Some id
 of_branch None id e = absurd (cc)
@@ -101,7 +96,7 @@ on_zero (b ∷ bs) h k x = on_zero bs h k x
 
 pub knows_more : (b : Id × BranchBirth) (bs : Branches) (o : Option Id) → knows_branch bs o ≡ true → knows_branch (b ∷ bs) o ≡ true
 knows_more b bs None e = refl
-knows_more b bs (Some id) e = elim (id_eq b.0 id) as (λ c. cond c true (knows bs id) ≡ true) [ true ↦ refl | false ↦ e ]
+knows_more b bs (Some id) e = elim (same_id b.0 id) as (λ c. cond c true (knows bs id) ≡ true) [ true ↦ refl | false ↦ e ]
 
 pub knows_own : (b : Id × BranchBirth) (bs : Branches) (o : Option Id) → branch_is o b.0 ≡ true → knows_branch (b ∷ bs) o ≡ true
 knows_own b bs o e = subst (λ x. knows_branch (b ∷ bs) x ≡ true) (sym (of_branch o b.0 e)) (ap (λ c. cond c true (knows bs b.0)) (id_self b.0))

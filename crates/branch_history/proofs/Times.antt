@@ -3,9 +3,10 @@ use Rattle.std.proofs.Common.{◌≡◌, ℕ, ◌≤◌, ◌<◌, ◌⊎◌, ◌
 use Rattle.std.proofs.lemmas.Bool.{cases_Bool, both_ways, and_parts, leb-true, cases_lt}
 use Rattle.region_map.specs.declared.id.Id.{Id}
 use Rattle.region_map.specs.Regions.{in_region}
+use Rattle.region_map.specs.Equal.{same_id}
 use Rattle.branch_history.specs.declared.version.Version.{Version}
 use Rattle.branch_history.specs.declared.history.BranchBirth.{BranchBirth}
-use Rattle.branch_history.specs.Paths.{Branches, id_eq, is_branch, is_zero, origin_at, is_on}
+use Rattle.branch_history.specs.Paths.{Branches, is_branch, is_zero, origin_at, is_on}
 use Rattle.branch_history.specs.Histories.{birth_of, IsHistory, IsInTime, StartsInTime}
 use Rattle.branch_history.proofs.PathLaws.{Other, Own, Older, Outside, part, lower, version_same, of_branch, zero_is, on_zero, on_self, on_antisym, on_forward, path_stays}
 use Rattle.branch_history.proofs.Births.{first_birth, later_birth, inside_birth, outside_birth, birth_known, origin_known}
@@ -38,7 +39,7 @@ times_fall (b ∷ bs) h k v x y i s e d =
 starts : (bs : Branches) (h : ℕ) (k : List ℕ) (id : Id) (birth : BranchBirth) → IsHistory bs → IsInTime bs h k → birth_of bs id ≡ Some birth → in_region birth.region h k ≡ true → StartsInTime bs h k birth
 starts [] h k id birth i s e r = absurd (cc)
 starts (b ∷ bs) h k id birth i s e r =
-    elim (cases_Bool (id_eq b.0 id)) [
+    elim (cases_Bool (same_id b.0 id)) [
       | inl t ↦
           let same = first_birth b bs id birth e t in
           more birth

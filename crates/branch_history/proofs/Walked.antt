@@ -59,10 +59,6 @@ aimed_at bs h k None b = refl
 aimed_at bs h k (Some v) None = refl
 aimed_at bs h k (Some v) (Some id) = ap Some (walked_going bs h k v (whole id))
 
-pub walked_more : (b : Id × BranchBirth) (bs : Branches) (h : ℕ) (k : List ℕ) (x : Option Walk) → walked_at (b ∷ bs) h k x ≡ walked_at bs h k (on b.0 b.1.initial x (origin_in b.1 h k))
-walked_more b bs h k None = refl
-walked_more b bs h k (Some walk) = refl
-
 pub ended_at : (h : ℕ) (k : List ℕ) (x : Option Walk) → ended x x ≡ walked_at [] h k x
 ended_at h k None = refl
 ended_at h k (Some walk) = refl

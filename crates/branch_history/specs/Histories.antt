@@ -4,18 +4,19 @@ use Rattle.std.specs.List.{AllByRecursion, list_all}
 use Rattle.region_map.specs.declared.id.Id.{Id}
 use Rattle.region_map.specs.declared.region.Region.{Region}
 use Rattle.region_map.specs.Regions.{in_region}
+use Rattle.region_map.specs.Equal.{same_id}
 use Rattle.branch_history.specs.declared.version.Version.{Version}
 use Rattle.branch_history.specs.declared.history.BranchBirth.{BranchBirth}
-use Rattle.branch_history.specs.Paths.{Branches, id_eq, origin_at, is_on}
+use Rattle.branch_history.specs.Paths.{Branches, origin_at, is_on}
 
 -- the birth of a branch
 abbrev pub birth_of : Branches → Id → Option BranchBirth
 birth_of [] id = None
-birth_of (b ∷ bs) id = if id_eq b.0 id then Some b.1 else birth_of bs id
+birth_of (b ∷ bs) id = if same_id b.0 id then Some b.1 else birth_of bs id
 
 abbrev pub knows : Branches → Id → Bool
 knows [] id = false
-knows (b ∷ bs) id = if id_eq b.0 id then true else knows bs id
+knows (b ∷ bs) id = if same_id b.0 id then true else knows bs id
 
 -- whether a branch that a version names is known
 abbrev pub knows_branch : Branches → Option Id → Bool

@@ -3,6 +3,7 @@ use Rattle.std.specs.Prelude.{ℕ, Bool, true, false, ◌&&◌, ◌==◌, List, 
 use Rattle.region_map.specs.declared.id.Id.{Id}
 use Rattle.region_map.specs.Regions.{in_region}
 use Rattle.region_map.specs.Maps.{value_at}
+use Rattle.region_map.specs.Equal.{same_id}
 use Rattle.branch_history.specs.declared.version.Version.{Version}
 use Rattle.branch_history.specs.declared.history.BranchBirth.{BranchBirth}
 
@@ -10,12 +11,9 @@ use Rattle.branch_history.specs.declared.history.BranchBirth.{BranchBirth}
 abbrev pub zero : Version
 zero = record { branch = None; timestamp = 0 }
 
-abbrev pub id_eq : Id → Id → Bool
-id_eq a b = ((a.node.0 == b.node.0) && (a.life == b.life)) && (a.counter == b.counter)
-
 abbrev pub branch_is : Option Id → Id → Bool
 branch_is None id = false
-branch_is (Some b) id = id_eq b id
+branch_is (Some b) id = same_id b id
 
 -- whether a version is one of a branch
 abbrev pub is_branch : Version → Id → Bool

@@ -2,14 +2,15 @@
 ghost use Rattle.std.specs.Prelude.{◌≡◌, ◌↔◌, ℕ, ◌<◌, ◌≤◌, ◌⊎◌, true, false, ◌&&◌, nat_le, List, ◌++◌, Some, None, if◌then◌else◌};
 ghost use Rattle.region_map.specs.declared.id.Id.{Id};
 ghost use Rattle.region_map.specs.Regions.{in_region};
+ghost use Rattle.region_map.specs.Equal.{same_id};
 ghost use Rattle.branch_history.specs.declared.version.Version.{Version};
 ghost use Rattle.branch_history.specs.declared.history.BranchBirth.{BranchBirth};
-ghost use Rattle.branch_history.specs.Paths.{Branches, id_eq, is_branch, is_zero, origin_at, is_on, ancestor, whole, zero};
+ghost use Rattle.branch_history.specs.Paths.{Branches, is_branch, is_zero, origin_at, is_on, ancestor, whole, zero};
 ghost use Rattle.branch_history.specs.Histories.{birth_of, knows_branch, IsHistory, IsInTime};
 
 /// Two ids are the same where their parts are.
 pub fn ids_are_their_parts()
-    ensures { (a b : Id) → (id_eq a b ≡ true) ↔ (a ≡ b) }
+    ensures { (a b : Id) → (same_id a b ≡ true) ↔ (a ≡ b) }
 {}
 
 /// The path of a version is told by the birth of its branch, wherever that stands in the history: the zero

@@ -14,7 +14,5 @@ pub use version::Version;
 
 pub mod history;
 pub mod laws;
-#[cfg(test)]
-mod tests;
 pub mod version;
 pub mod walk;

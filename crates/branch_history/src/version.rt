@@ -1,6 +1,7 @@
 //! Versions.
 ghost use Rattle.std.specs.Prelude.{◌≡◌};
-ghost use Rattle.branch_history.specs.Paths.{id_eq, is_branch, is_zero, zero};
+ghost use Rattle.region_map.specs.Equal.{same_id};
+ghost use Rattle.branch_history.specs.Paths.{is_branch, is_zero, zero};
 
 use region_map::{Id, MapValue, OutOfMemory};
 use std::alloc::Global;
@@ -48,7 +49,7 @@ impl Version {
 
 /// Whether two ids are the same.
 pub fn is_same_id(a: &Id, b: &Id) -> bool
-    ensures { result ≡ id_eq a.now b.now }
+    ensures { result ≡ same_id a.now b.now }
 {
     a.node.0 == b.node.0 && a.life == b.life && a.counter == b.counter
 }

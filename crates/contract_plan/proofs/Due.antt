@@ -15,9 +15,9 @@ use Rattle.contract_types.specs.declared.change.Change.{Change}
 use Rattle.contract_types.specs.declared.change.Change.TheVariants.{RegisterBranch}
 use Rattle.contract_types.specs.declared.contract.Contract.{Contract}
 use Rattle.contract_types.specs.declared.contract.Holder.{Holder}
+use Rattle.contract_types.specs.declared.applied.Applied.TheVariants.{Taken, Skipped}
+use Rattle.contract_types.specs.declared.applied.Condition.TheVariants.{Tenure, IdNew, BasedOn}
 use Rattle.contract_types.specs.Tables.{Table}
-use Rattle.table_apply.specs.declared.applied.Applied.TheVariants.{Taken, Skipped}
-use Rattle.table_apply.specs.declared.applied.Condition.TheVariants.{Tenure, IdNew, BasedOn}
 use Rattle.table_apply.specs.Conditions.{same_regions, is_held_by, has_tenure, is_based_on}
 use Rattle.table_apply.specs.Effects.{skipped, taken, birth, applied_at}
 use Rattle.table_apply.proofs.Based.{region_self}

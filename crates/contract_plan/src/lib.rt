@@ -15,5 +15,3 @@ pub use rules::{plan, rests_on};
 pub mod laws;
 pub mod plans;
 pub mod rules;
-#[cfg(test)]
-mod tests;

@@ -2,7 +2,7 @@
 use contract_types::Change;
 
 /// What the leader does for a contract.
-#[derive(Debug, Drop)]
+#[derive(Drop)]
 pub enum Plan {
     /// Nothing: the contract is as it should be, or more acks have to come first.
     Keep,

@@ -12,9 +12,9 @@ use Rattle.region_map.specs.Maps.{Pieced, IsCanonical, value_at}
 use Rattle.region_map.proofs.Order.{before_nil}
 use Rattle.region_map.proofs.Bands.{one_canonical}
 use Rattle.region_map.proofs.Same.{same_maps}
+use Rattle.region_map.specs.Equal.{same_id}
 use Rattle.branch_history.specs.declared.version.Version.{Version}
-use Rattle.branch_history.specs.declared.history.BranchBirth.{BranchBirth}
-use Rattle.branch_history.specs.Paths.{Branches, id_eq, zero}
+use Rattle.branch_history.specs.Paths.{Branches, zero}
 use Rattle.branch_history.specs.Histories.{knows}
 use Rattle.contract_types.specs.declared.config.ShardConfig.{ShardConfig}
 use Rattle.contract_types.specs.Tilings.{holders}
@@ -53,7 +53,7 @@ zero_origin_is m hashes r e f t c d at =
 pub none_bad : (p : ShardConfig → Bool) (xs : List ShardConfig) (i : ℕ) (d : ShardConfig) → list_any p xs ≡ false → i < length xs → p (get_or xs i d) ≡ false
 none_bad p xs i d e l = false_from_ne_true _ (λ f. both_ways _ e (list_any_at p xs i d l f))
 
-regions_first : (c : ConfigState) → IsConfig c → has_regions c.hashes c.shards ≡ true
+pub regions_first : (c : ConfigState) → IsConfig c → has_regions c.hashes c.shards ≡ true
 regions_first c i =
     let roles = and_parts (has_replicas c.nodes c.hashes c.shards) (not (has_bad_roles c.shards)) i.roles in
     (and_parts (has_regions c.hashes c.shards) (not (has_bad_replicas c.nodes c.shards)) roles.0).0
@@ -81,7 +81,7 @@ shard_good c i s ok l e =
 
 -- ---- branches
 
-other_counter : (a b : Id) → a.counter < b.counter → id_eq a b ≡ false
+other_counter : (a b : Id) → a.counter < b.counter → same_id a b ≡ false
 other_counter a b l = and_right ((a.node.0 == b.node.0) && (a.life == b.life)) (a.counter == b.counter) (ne_eqb a.counter b.counter (λ e. absurd (omega arith)))
 
 -- an id whose counter all others are below is not known
@@ -89,7 +89,7 @@ pub below_unknown : (place : ℕ) (history : Branches) (id : Id) → AllBelow pl
 below_unknown place [] id all l = refl
 below_unknown place (b ∷ bs) id all l =
     let m : b.0.counter < id.counter = let a = all.0 in omega arith in
-    cond-false (id_eq b.0 id) true (knows bs id) (other_counter b.0 id m) ∙ below_unknown place bs id all.1 l
+    cond-false (same_id b.0 id) true (knows bs id) (other_counter b.0 id m) ∙ below_unknown place bs id all.1 l
 
 pub below_next : (place : ℕ) (history : Branches) → AllBelow place history → AllBelow (place + 1) history
 below_next place [] all = tt
@@ -174,20 +174,3 @@ begun_kept c place history map ok b e =
     let some : (h : ℕ) (k : List ℕ) → h < c.hashes → is_some (branch_at history h k) ≡ true = λ h k l.
     ap (λ bs. is_some (branch_at bs h k)) e ∙ some_branch c h k ok l in
     record { hashes = b.hashes; origins = b.origins; some = some; current = λ h k l. b.branch h k l (some h k l) }
-
--- a branch is registered
-pub kept_next : (hashes : ℕ) (history : Branches) (old new : Pieced Id) (id : Id) (b : BranchBirth) → IsKept hashes history old → b.origin.hashes ≡ hashes
-    → new.hashes ≡ old.hashes
-    → ((h : ℕ) (k : List ℕ) → value_at new.pieces h k ≡ cond (in_region b.region h k && is_some (value_at old.pieces h k)) (Some id) (value_at old.pieces h k))
-    → IsKept hashes ((id, b) ∷ history) new
-kept_next hashes history old new id b kept o e at = record {
-  hashes = e ∙ kept.hashes;
-  origins = (o, kept.origins);
-  some = λ h k l. cond_both (in_region b.region h k) (Some id) (branch_at history h k) (λ (x : Option Id). is_some x ≡ true) (λ i. refl) (λ i. kept.some h k l);
-  current = λ h k l.
-      let s : is_some (value_at old.pieces h k) ≡ true = ap is_some (kept.current h k l) ∙ kept.some h k l in
-      elim (in_region b.region h k) as (λ v. in_region b.region h k ≡ v → value_at new.pieces h k ≡ cond v (Some id) (branch_at history h k)) [
-        | true ↦ λ i. set_in old new b.region id at h k s i
-        | false ↦ λ i. set_out old new b.region id at h k i ∙ kept.current h k l
-      ] refl;
-}

@@ -1,10 +1,11 @@
 -- A rule on how many regions have a pair holds at every pair where it holds at the bounds.
-use Rattle.std.proofs.Common.{◌≡◌, ℕ, ◌+◌, ◌≤◌, Bool, true, false, cond, ◌&&◌, not, nat_lt, nat_le, List, [], ◌∷◌, Option, Some, None, inl, inr, refl, sym, ap, ap₂, ◌∙◌, ◌↔◌, arith, ◌<◌, ◌||◌}
+use Rattle.std.proofs.Common.{◌≡◌, ℕ, ◌+◌, ◌≤◌, Bool, true, false, cond, ◌&&◌, not, nat_lt, nat_le, List, [], ◌∷◌, inl, inr, refl, sym, ap, ap₂, ◌∙◌, ◌↔◌, arith, ◌<◌, ◌||◌}
 use Rattle.std.specs.List.{AllByRecursion, list_all}
 use Rattle.std.proofs.lemmas.Bool.{and_parts, and_cases, or_parts, or_cases, ltb-true, ltb-false, lt-ltb, le-ltb, leb-true, leb-false}
 use Rattle.std.proofs.lemmas.Bool.Decides.{nat_tests}
+use Rattle.region_map.proofs.Made.{below_together}
 use Rattle.region_map.specs.declared.region.Region.{Region}
-use Rattle.region_map.specs.Regions.{before, low, below, in_region}
+use Rattle.region_map.specs.Regions.{before, low, in_region}
 use Rattle.region_map.proofs.Order.{before_nil, before_self, before_back, then_before, not_before}
 use Rattle.contract_types.specs.declared.tiling.Rule.{Rule}
 use Rattle.contract_types.specs.declared.tiling.Rule.TheVariants.{Apart, Whole, Tiles}
@@ -45,16 +46,12 @@ some_not f (x ∷ xs) h = elim (and_cases (f x) (list_all f xs) h) [ inl e ↦ (
 
 -- ---- regions
 
-same_bound : (to : Option (List ℕ)) (k l : List ℕ) → before k (low to) ≡ before l (low to) → below k to ≡ below l to
-same_bound None k l e = refl
-same_bound (Some b) k l e = e
-
 same_region : (r : Region) (h i : ℕ) (k l : List ℕ) → nat_lt h r.hash_from ≡ nat_lt i r.hash_from → nat_lt h r.hash_to ≡ nat_lt i r.hash_to
     → before k (low r.from) ≡ before l (low r.from) → before k (low r.to) ≡ before l (low r.to) → in_region r h k ≡ in_region r i l
 same_region r h i k l a b c d =
     ap₂ ◌&&◌
     (ap₂ ◌&&◌ (le_is r.hash_from h ∙ ap not a ∙ sym (le_is r.hash_from i)) b)
-    (ap₂ ◌&&◌ (ap not c) (same_bound r.to k l d))
+    (ap₂ ◌&&◌ (ap not c) (below_together r.to k l d))
 
 same_all : {X : Type 0} (place : X → Region) (xs : List X) (h i : ℕ) (k l : List ℕ)
     → AllByRecursion (λ x. (nat_lt h (place x).hash_from ≡ nat_lt i (place x).hash_from) × (nat_lt h (place x).hash_to ≡ nat_lt i (place x).hash_to)) xs

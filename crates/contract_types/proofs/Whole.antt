@@ -1,10 +1,11 @@
 -- One shard of all keys is a configuration.
-use Rattle.std.proofs.Common.{◌≡◌, ◌==◌, ℕ, zero, suc, ◌<◌, ◌≤◌, Bool, true, false, cond, ◌&&◌, ◌||◌, not, nat_lt, nat_le, List, [], ◌∷◌, length, map, inl, inr, refl, sym, ap, ◌∙◌, arith, length-append}
+use Rattle.std.proofs.Common.{◌≡◌, ◌==◌, ℕ, zero, suc, ◌<◌, Bool, true, false, cond, ◌&&◌, ◌||◌, not, nat_lt, nat_le, List, [], ◌∷◌, length, map, inl, inr, refl, sym, ap, ◌∙◌, arith, length-append}
 use Rattle.std.specs.List.{filter, AllByRecursion}
 use Rattle.std.proofs.lemmas.Bool.{lt-ltb, eq-eqb, ne_eqb, or_right, cases_lt}
 use Rattle.std.proofs.lemmas.Bool.Decides.{nat_tests}
 use Rattle.std.proofs.lemmas.List.Folds.{list_any-append}
 use Rattle.std.proofs.lemmas.List.Sums.{length-filter}
+use Rattle.list_laws.proofs.Counts.{counts_at_most_once}
 use Rattle.region_map.specs.declared.id.NodeId.{NodeId}
 use Rattle.region_map.specs.Nodes.{has, without, node_id}
 use Rattle.region_map.specs.Regions.{before, in_region}
@@ -61,10 +62,6 @@ in_all hashes h k l =
     all_true : (a b c : Bool) → a ≡ true → b ≡ true → c ≡ false → ((a && b) && (not c && true)) ≡ true
     all_true a b c x y z = rw (x, y, z) refl
 
-one_at_most : (b : Bool) → cond b 1 0 ≤ 1
-one_at_most true = omega arith
-one_at_most false = omega arith
-
 pub whole_is_config : (nodes hashes : ℕ) → 0 < nodes → 0 < hashes → IsConfig (whole nodes hashes)
 whole_is_config nodes hashes some any = record {
   roles = whole_roles (is_bad_region hashes (all_keys hashes)) (length (nodes_below nodes) == 0) (are_nodes nodes (nodes_below nodes))
@@ -72,6 +69,6 @@ whole_is_config nodes hashes some any = record {
       (good_region hashes any) (some_below nodes some) (nodes_are nodes)
       (ap (λ xs. nat_lt 0 (length xs)) (filter_none (λ k. not (has (nodes_below nodes) k)) (nodes_below nodes) (all_had nodes (nodes_below nodes) (all_below nodes))))
       (has_below nodes 0 some);
-  apart = λ (h, k, l). absurd (let m = one_at_most (in_region (all_keys hashes) h k) in omega arith);
+  apart = λ (h, k, l). absurd (let m = counts_at_most_once (in_region (all_keys hashes) h k) in omega arith);
   whole = λ (h, k, l, e). absurd (let m = sym (ap (λ b. cond b 1 0) (in_all hashes h k l)) ∙ e in omega arith);
 }

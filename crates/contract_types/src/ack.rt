@@ -7,7 +7,7 @@ use region_map::{Id, NodeId, RegionMap};
 use std::alloc::Global;
 
 /// How far a server is under a contract.
-#[derive(Debug, Drop)]
+#[derive(Drop)]
 pub enum Ack {
     /// The primary wants this branch to be registered. It goes on from these versions of its own, and it knew
     /// these branches as the current ones of the contract's region.
@@ -62,7 +62,7 @@ impl Ack {
 }
 
 /// An ack, and who said it.
-#[derive(Debug, Drop)]
+#[derive(Drop)]
 pub struct ServerAck {
     pub server: NodeId,
     pub ack: Ack,

@@ -11,7 +11,7 @@ use std::alloc::Global;
 use std::marker::Model;
 
 /// Ids, which clauses see as a list.
-#[derive(Debug, Drop)]
+#[derive(Drop)]
 pub struct Ids {
     items: Vec<Id>,
 }
@@ -60,7 +60,7 @@ impl Ids {
 }
 
 /// Contracts, which clauses see as a list; those of a table stand in table order.
-#[derive(Debug, Drop)]
+#[derive(Drop)]
 pub struct Contracts {
     items: Vec<Contract>,
 }
@@ -139,7 +139,7 @@ fn copy_contracts(alloc: Global, contracts: &[Contract]) -> Result<Vec<Contract>
 
 /// A change of a table that the log holds. What it does once it is committed, and when it is skipped, is said
 /// by `table_apply`.
-#[derive(Debug, Drop)]
+#[derive(Drop)]
 pub enum Change {
     /// Nothing; what a new leader appends.
     Noop,

@@ -14,7 +14,7 @@ pub struct Holder {
 }
 
 /// One contract of the table.
-#[derive(Debug, Drop)]
+#[derive(Drop)]
 pub struct Contract {
     pub id: Id,
     pub region: Region,

@@ -1,5 +1,5 @@
-//! The words of a table's contracts: who replicates, who votes, who is primary, what its configuration is, and
-//! what its log says.
+//! The words of a table's contracts: who replicates, who votes, who is primary, what its configuration is, what
+//! its log says, and what became of what it says.
 //!
 //! A contract names the replicas of a region, which of them vote, and which one is primary. Acks count from the
 //! log index `since` on, at which the contract was made. A primary keeps its tenure over contracts that follow
@@ -12,6 +12,7 @@
 #![tactic(auto)]
 
 pub use ack::{Ack, ServerAck};
+pub use applied::{Applied, Condition};
 pub use change::{Change, Contracts, Ids};
 pub use config::{ConfigRefused, MAX_SHARDS, ShardConfig, TableConfig, nodes_below};
 pub use contract::{Contract, Holder};
@@ -22,10 +23,12 @@ pub use laws::{a_test_finds_configurations, each_pair_has_one_shard, no_two_shar
 pub use limits::Which;
 pub use placed::Placed;
 pub use region_map::majority;
+pub use results::{Results, Viewed};
 pub use setup::Setup;
 pub use table::TableState;
 
 pub mod ack;
+pub mod applied;
 pub mod change;
 pub mod config;
 pub mod contract;
@@ -35,8 +38,7 @@ pub mod id_source;
 pub mod laws;
 pub mod limits;
 pub mod placed;
+pub mod results;
 pub mod setup;
 pub mod table;
-#[cfg(test)]
-mod tests;
 pub mod tiling;

@@ -3,7 +3,7 @@ use Rattle.std.proofs.Common.{◌≡◌, ◌==◌, Bool, true, false, cond, ◌&
 use Rattle.std.proofs.lemmas.Bool.{both_ways, eqb-true, eq-eqb}
 use Rattle.region_map.specs.declared.id.Id.{Id}
 use Rattle.region_map.specs.declared.id.NodeId.{NodeId}
-use Rattle.branch_history.specs.Paths.{id_eq}
+use Rattle.region_map.specs.Equal.{same_id}
 use Rattle.branch_history.proofs.PathLaws.{id_same, id_self}
 use Rattle.contract_types.specs.declared.ack.Ack.{Ack}
 use Rattle.contract_types.specs.declared.ack.ServerAck.{ServerAck}
@@ -57,26 +57,26 @@ module _ (server : NodeId) (ack : Ack) (node : NodeId) where
 
 module _ (contract : Id) (server : NodeId) (ack : Ack) (id : Id) where
   read_under : (acks : List ContractAcks) → acks_under (with_ack contract server ack acks) id
-      ≡ cond (id_eq contract id) (with_server_ack server ack (acks_under acks id)) (acks_under acks id)
+      ≡ cond (same_id contract id) (with_server_ack server ack (acks_under acks id)) (acks_under acks id)
   read_under [] = refl
   read_under (c ∷ rest) =
       let w : List ServerAck → List ServerAck = with_server_ack server ack in
-      elim (id_eq c.contract contract) as (λ v. id_eq c.contract contract ≡ v
+      elim (same_id c.contract contract) as (λ v. same_id c.contract contract ≡ v
       → acks_under (cond v (record c { acks = w c.acks } ∷ rest) (c ∷ with_ack contract server ack rest)) id
-      ≡ cond (id_eq contract id) (w (acks_under (c ∷ rest) id)) (acks_under (c ∷ rest) id)) [
-        | true ↦ λ e. same_change w (id_eq c.contract id) (id_eq contract id) (ap (λ i. id_eq i id) (id_same c.contract contract e)) c.acks (acks_under rest id)
+      ≡ cond (same_id contract id) (w (acks_under (c ∷ rest) id)) (acks_under (c ∷ rest) id)) [
+        | true ↦ λ e. same_change w (same_id c.contract id) (same_id contract id) (ap (λ i. same_id i id) (id_same c.contract contract e)) c.acks (acks_under rest id)
         | false ↦ λ e.
-            let other : id_eq c.contract id ≡ true → id_eq contract id ≡ true → ⊥ =
-            λ f g. both_ways (id_eq c.contract contract) e (subst (λ i. id_eq c.contract i ≡ true) (id_same c.contract id f ∙ sym (id_same contract id g)) (id_self c.contract)) in
-            ap (cond (id_eq c.contract id) c.acks) (read_under rest)
-            ∙ other_change w (id_eq c.contract id) (id_eq contract id) other c.acks (acks_under rest id)
+            let other : same_id c.contract id ≡ true → same_id contract id ≡ true → ⊥ =
+            λ f g. both_ways (same_id c.contract contract) e (subst (λ i. same_id c.contract i ≡ true) (id_same c.contract id f ∙ sym (id_same contract id g)) (id_self c.contract)) in
+            ap (cond (same_id c.contract id) c.acks) (read_under rest)
+            ∙ other_change w (same_id c.contract id) (same_id contract id) other c.acks (acks_under rest id)
       ] refl
 
 pub read_ack : (acks : List ContractAcks) (contract : Id) (server : NodeId) (ack : Ack) (id : Id) (node : NodeId)
-    → ack_of (with_ack contract server ack acks) id node ≡ cond (id_eq contract id && (server.0 == node.0)) (Some ack) (ack_of acks id node)
+    → ack_of (with_ack contract server ack acks) id node ≡ cond (same_id contract id && (server.0 == node.0)) (Some ack) (ack_of acks id node)
 read_ack acks contract server ack id node =
     ap (λ l. ack_in l node) (read_under contract server ack id acks)
-    ∙ elim (id_eq contract id) as (λ v. ack_in (cond v (with_server_ack server ack (acks_under acks id)) (acks_under acks id)) node
+    ∙ elim (same_id contract id) as (λ v. ack_in (cond v (with_server_ack server ack (acks_under acks id)) (acks_under acks id)) node
     ≡ cond (v && (server.0 == node.0)) (Some ack) (ack_of acks id node)) [
       | true ↦ read_server server ack node (acks_under acks id)
       | false ↦ refl

@@ -1,10 +1,10 @@
 -- Proposals are plans, and the acks that are left lead to none.
 use Rattle.std.proofs.Common.{◌≡◌, ◌==◌, ℕ, zero, suc, ◌<◌, Bool, true, false, cond, ◌&&◌, not, List, [], ◌∷◌, ◌++◌, length, slice_index_or, map, filter, Some, ◌⊎◌, inl, inr, refl, sym, ap, ap₂, ◌∙◌, arith}
 use Rattle.std.specs.List.{Contains}
-use Rattle.std.proofs.lemmas.Bool.{and_from, both_ways, eqb-true}
+use Rattle.std.proofs.lemmas.Bool.{and_from, both_ways}
+use Rattle.region_map.specs.Equal.{node_decides, same_id}
 use Rattle.region_map.specs.declared.id.Id.{Id}
 use Rattle.region_map.specs.declared.id.NodeId.{NodeId}
-use Rattle.branch_history.specs.Paths.{id_eq}
 use Rattle.branch_history.proofs.PathLaws.{id_same, id_self}
 use Rattle.contract_types.specs.declared.ack.Ack.{Ack}
 use Rattle.contract_types.specs.declared.ack.ServerAck.{ServerAck}
@@ -46,9 +46,6 @@ planned acks t change m = planned_for acks t t.contracts change m
 
 -- ---- the acks that are left
 
-server_same : (a b : NodeId) → (a.0 == b.0) ≡ true → a ≡ b
-server_same a b e = let n = eqb-true a.0 b.0 e in λ i. record { 0 = n i }
-
 -- an ack that is found among those that pass
 record Passing (passes : ServerAck → Bool) (node : NodeId) (ack : Ack) : Type 0 where
   found : ServerAck
@@ -63,7 +60,7 @@ module _ (passes : ServerAck → Bool) (node : NodeId) (ack : Ack) where
       elim (passes a) as (λ v. passes a ≡ v → ack_in (cond v (a ∷ filter passes rest) (filter passes rest)) node ≡ Some ack → Passing passes node ack) [
         | true ↦ λ p f.
             elim (a.server.0 == node.0) as (λ v. (a.server.0 == node.0) ≡ v → cond v (Some a.ack) (ack_in (filter passes rest) node) ≡ Some ack → Passing passes node ack) [
-              | true ↦ λ s g. record { found = a; passing = p; server = server_same a.server node s; ack_is = cc }
+              | true ↦ λ s g. record { found = a; passing = p; server = (node_decides a.server node).0 s; ack_is = cc }
               | false ↦ λ s g. found_passes rest g
             ] refl f
         | false ↦ λ p f. found_passes rest f
@@ -75,7 +72,7 @@ module _ (passes : ServerAck → Bool) (node : NodeId) (ack : Ack) where
       elim (a.server.0 == node.0) as (λ v. (a.server.0 == node.0) ≡ v → cond v (Some a.ack) (ack_in rest node) ≡ Some ack → ack_in (filter passes (a ∷ rest)) node ≡ Some ack) [
         | true ↦ λ s f.
             let same : a.ack ≡ ack = cc in
-            let server : a.server ≡ node = server_same a.server node s in
+            let server : a.server ≡ node = (node_decides a.server node).0 s in
             let is : a ≡ record { server = node; ack = ack } = λ i. record { server = server i; ack = same i } in
             ap (λ v. ack_in (cond v (a ∷ filter passes rest) (filter passes rest)) node) (ap passes is ∙ h)
             ∙ ap (λ v. cond v (Some a.ack) (ack_in (filter passes rest) node)) s ∙ f
@@ -89,7 +86,7 @@ module _ (passes : ServerAck → Bool) (node : NodeId) (ack : Ack) where
 left_under : (t : Table) (id : Id) (acks : List ContractAcks) → acks_under (map (without_used t) acks) id ≡ filter (λ a. not (is_used t id a)) (acks_under acks id)
 left_under t id [] = refl
 left_under t id (c ∷ rest) =
-    elim (id_eq c.contract id) as (λ v. id_eq c.contract id ≡ v → cond v (filter (λ a. not (is_used t c.contract a)) c.acks) (acks_under (map (without_used t) rest) id)
+    elim (same_id c.contract id) as (λ v. same_id c.contract id ≡ v → cond v (filter (λ a. not (is_used t c.contract a)) c.acks) (acks_under (map (without_used t) rest) id)
     ≡ filter (λ a. not (is_used t id a)) (cond v c.acks (acks_under rest id))) [
       | true ↦ λ e. ap (λ i. filter (λ a. not (is_used t i a)) c.acks) (id_same c.contract id e)
       | false ↦ λ e. left_under t id rest
@@ -97,7 +94,7 @@ left_under t id (c ∷ rest) =
 
 uses : (t : Table) (c : Contract) (a : ServerAck) → Contains t.contracts c → rests_on c t.history a.server a.ack ≡ true → is_used t c.id a ≡ true
 uses t c a m r =
-    any_at (λ d. id_eq d.id c.id && rests_on d t.history a.server a.ack) t.contracts m.0 c m.1 m.2 (and_from _ _ (id_self c.id) r)
+    any_at (λ d. same_id d.id c.id && rests_on d t.history a.server a.ack) t.contracts m.0 c m.1 m.2 (and_from _ _ (id_self c.id) r)
 
 none_left : (acks : List ContractAcks) (t : Table) (c : Contract) (change : Change) → Contains t.contracts c
     → plan_of c t (ack_of (after_proposals acks t) c.id) ≡ Propose change → ⊥

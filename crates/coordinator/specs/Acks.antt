@@ -2,7 +2,7 @@
 use Rattle.std.specs.Prelude.{◌==◌, Bool, List, [], ◌∷◌, Option, if◌then◌else◌}
 use Rattle.region_map.specs.declared.id.Id.{Id}
 use Rattle.region_map.specs.declared.id.NodeId.{NodeId}
-use Rattle.branch_history.specs.Paths.{id_eq}
+use Rattle.region_map.specs.Equal.{same_id}
 use Rattle.contract_types.specs.declared.ack.Ack.{Ack}
 use Rattle.contract_types.specs.declared.ack.ServerAck.{ServerAck}
 use Rattle.contract_plan.specs.Plans.{ack_in}
@@ -20,13 +20,13 @@ with_server_ack server ack acks = put (λ a. a.server.0 == server.0) (λ a. reco
 -- the acks after a server sent one under a contract's id
 abbrev pub with_ack : Id → NodeId → Ack → List ContractAcks → List ContractAcks
 with_ack contract server ack acks =
-    put (λ c. id_eq c.contract contract) (λ c. record c { acks = with_server_ack server ack c.acks })
+    put (λ c. same_id c.contract contract) (λ c. record c { acks = with_server_ack server ack c.acks })
     (record { contract = contract; acks = record { server = server; ack = ack } ∷ [] }) acks
 
 -- the acks under a contract's id
 abbrev pub acks_under : List ContractAcks → Id → List ServerAck
 acks_under [] contract = []
-acks_under (c ∷ rest) contract = if id_eq c.contract contract then c.acks else acks_under rest contract
+acks_under (c ∷ rest) contract = if same_id c.contract contract then c.acks else acks_under rest contract
 
 -- the last ack that a server sent under a contract's id
 abbrev pub ack_of : List ContractAcks → Id → NodeId → Option Ack

@@ -2,7 +2,7 @@
 use Rattle.std.specs.Prelude.{Bool, ◌&&◌, not, List, [], ◌∷◌, ◌++◌, map, filter}
 use Rattle.std.specs.List.{list_any}
 use Rattle.region_map.specs.declared.id.Id.{Id}
-use Rattle.branch_history.specs.Paths.{id_eq}
+use Rattle.region_map.specs.Equal.{same_id}
 use Rattle.contract_types.specs.declared.ack.ServerAck.{ServerAck}
 use Rattle.contract_types.specs.declared.change.Change.{Change}
 use Rattle.contract_types.specs.declared.contract.Contract.{Contract}
@@ -28,7 +28,7 @@ proposals_of acks t = changes_for acks t t.contracts
 
 -- whether the plan for a contract of the table rests on an ack under this id
 abbrev pub is_used : Table → Id → ServerAck → Bool
-is_used t contract ack = list_any (λ c. id_eq c.id contract && rests_on c t.history ack.server ack.ack) t.contracts
+is_used t contract ack = list_any (λ c. same_id c.id contract && rests_on c t.history ack.server ack.ack) t.contracts
 
 abbrev pub without_used : Table → ContractAcks → ContractAcks
 without_used t c = record c { acks = filter (λ a. not (is_used t c.contract a)) c.acks }

@@ -1,6 +1,6 @@
 //! The last acks, and the changes that they lead to.
 ghost use Rattle.std.specs.Prelude.{◌≡◌, [], map, position, IfOk, OnOk, OnErr};
-ghost use Rattle.branch_history.specs.Paths.{id_eq};
+ghost use Rattle.region_map.specs.Equal.{same_id};
 ghost use Rattle.coordinator.specs.Acks.{with_ack, acks_under};
 ghost use Rattle.coordinator.specs.Proposals.{changes_for, proposals_of, without_used, after_proposals};
 
@@ -14,7 +14,7 @@ use std::alloc::Global;
 use std::marker::Model;
 
 /// The last acks that servers sent under a contract's id.
-#[derive(Debug, Drop)]
+#[derive(Drop)]
 pub struct ContractAcks {
     pub contract: Id,
     pub acks: ServerAcks,
@@ -22,7 +22,7 @@ pub struct ContractAcks {
 
 /// The last ack of each server under each contract's id, in the order in which the ids were first named. They are few,
 /// at most as many as contracts and nodes, so they are looked up one after the other.
-#[derive(Debug, Drop)]
+#[derive(Drop)]
 pub struct Acks {
     contracts: Vec<ContractAcks>,
 }
@@ -127,7 +127,7 @@ fn acks_under<'a>(acks: &'a [ContractAcks], contract: &Id) -> &'a [ServerAck]
 
 /// Where the acks under a contract's id are.
 fn place_of(acks: &[ContractAcks], contract: &Id) -> Option<usize>
-    ensures { result ≡ position (λ c. id_eq c.contract contract.now) acks.now }
+    ensures { result ≡ position (λ c. same_id c.contract contract.now) acks.now }
 {
     acks.iter()
         .position(|kept| is_same_id(&kept.contract, contract))

@@ -3,7 +3,7 @@ ghost use Rattle.std.specs.Prelude.{◌≡◌, ◌==◌, ◌&&◌, false, List, 
 ghost use Rattle.std.specs.List.{Contains};
 ghost use Rattle.region_map.specs.declared.id.Id.{Id};
 ghost use Rattle.region_map.specs.declared.id.NodeId.{NodeId};
-ghost use Rattle.branch_history.specs.Paths.{id_eq};
+ghost use Rattle.region_map.specs.Equal.{same_id};
 ghost use Rattle.contract_types.specs.declared.ack.Ack.{Ack};
 ghost use Rattle.contract_types.specs.declared.change.Change.{Change};
 ghost use Rattle.contract_types.specs.declared.contract.Contract.{Contract};
@@ -18,7 +18,7 @@ ghost use Rattle.coordinator.specs.Proposals.{is_used, proposals_of, after_propo
 pub fn the_last_ack_is_kept()
     ensures { (acks : List ContractAcks) (contract : Id) (server : NodeId) (ack : Ack) (id : Id) (node : NodeId)
         → ack_of (with_ack contract server ack acks) id node
-        ≡ (if id_eq contract id && (server.0 == node.0) then Some ack else ack_of acks id node) }
+        ≡ (if same_id contract id && (server.0 == node.0) then Some ack else ack_of acks id node) }
 {}
 
 /// Each change that is proposed is the plan for a contract of the table, by the acks under the contract's own id.

@@ -15,5 +15,3 @@ pub use server_acks::ServerAcks;
 pub mod acks;
 pub mod laws;
 pub mod server_acks;
-#[cfg(test)]
-mod tests;

@@ -12,7 +12,7 @@ use std::alloc::Global;
 use std::marker::Model;
 
 /// The last ack of each server, in the order in which the servers sent their first ones.
-#[derive(Debug, Drop)]
+#[derive(Drop)]
 pub struct ServerAcks {
     items: Vec<ServerAck>,
 }

@@ -4,44 +4,44 @@ use Rattle.std.proofs.Math.ListN.{length-set}
 use Rattle.std.proofs.lemmas.Bool.{cond_both, cases_eq, ltb-true, ltb-false}
 use Rattle.std.proofs.lemmas.List.{get_or-set_same}
 use Rattle.std.specs.List.{AllByRecursion}
-use Rattle.region_map.specs.declared.id.Id.{Id}
-use Rattle.region_map.specs.declared.id.NodeId.{NodeId}
-use Rattle.region_map.specs.declared.region.Region.{Region}
-use Rattle.region_map.specs.Maps.{Pieced}
-use Rattle.branch_history.specs.declared.version.Version.{Version}
-use Rattle.register_laws.specs.declared.operation.OpId.{OpId}
-use Rattle.register_laws.specs.declared.operation.Op.{Op}
-use Rattle.register_laws.specs.Register.{reply_of}
-use Rattle.contract_types.specs.declared.contract.Contract.{Contract}
-use Rattle.contract_types.specs.Tables.{Table}
-use Rattle.table_log.specs.declared.results.Viewed.{Viewed}
-use Rattle.table_log.specs.Logs.{table_of, caught_up}
-use Rattle.coordinator.specs.Acks.{with_ack as with_said}
-use Rattle.coordinator.specs.Proposals.{proposals_of, after_proposals}
-use Rattle.exec_types.specs.declared.input.Input.{Input}
-use Rattle.exec_types.specs.declared.input.Input.TheVariants.{Request, GiveUp, See, Tick, Deliver, Crash, Restart}
-use Rattle.exec_types.specs.declared.message.Got.{Got}
-use Rattle.exec_types.specs.declared.message.Message.{Message as Sent}
-use Rattle.exec_types.specs.declared.message.Message.TheVariants as message
-use Rattle.store_api.specs.Rows.{Rows, has_key, value_of}
-use Rattle.write_dispatch.specs.declared.decided.Decided.{Decided}
-use Rattle.write_dispatch.specs.declared.decided.KeptAck.{KeptAck}
-use Rattle.write_dispatch.specs.Dispatch.{DispatchState, Acks, ack_of, exceeds, with_ack, is_decided, pending_of, without_op}
-use Rattle.write_dispatch.proofs.Later.{no_acks-none, with_ack-other}
-use Rattle.primary_exec.specs.declared.asking.Asking.{Asking}
-use Rattle.primary_exec.specs.declared.session.Session.{Session}
-use Rattle.primary_exec.specs.Execution.{Execution, dispatch_row, started, is_live, with_acked, with_stands, got_row, decided, without_given_up, give_up_row}
-use Rattle.node_core.specs.declared.node.Brought.{Brought}
-use Rattle.node_core.specs.Parts.{Requested, is_for, dispatched, passed_on, request_all}
-use Rattle.node_core.specs.Starting.{Starting, due, start_one, start_each}
-use Rattle.node_core.specs.Step.{NodeState, Stepped, silent, leads, coordinates, propose_all, message_row, is_well_formed, brought_row, input_row, act_on}
-use Rattle.run_laws.specs.Story.{Point, IsIn, points_in, points_of}
-use Rattle.run_laws.proofs.KeyedStarts.{placed_all}
-use Rattle.run_laws.proofs.LedHistories.{some_inner}
-use Rattle.run_laws.proofs.Outs.{undecided_keeps, without_op_keeps, all_push}
-use Rattle.run_laws.proofs.PointBranches.{all_at, all_from}
-use Rattle.run_laws.proofs.Requesting.{point_at, dispatch_points}
-use Rattle.run_laws.proofs.StoredSteps.{all_step}
+use Rattle.row_runs.specs.runs.region_map.declared.id.Id.{Id}
+use Rattle.row_runs.specs.runs.region_map.declared.id.NodeId.{NodeId}
+use Rattle.row_runs.specs.runs.region_map.declared.region.Region.{Region}
+use Rattle.row_runs.specs.runs.region_map.Maps.{Pieced}
+use Rattle.row_runs.specs.runs.branch_history.declared.version.Version.{Version}
+use Rattle.row_runs.specs.runs.register_laws.declared.operation.OpId.{OpId}
+use Rattle.row_runs.specs.runs.register_laws.declared.operation.Op.{Op}
+use Rattle.row_runs.specs.runs.register_laws.Register.{reply_of}
+use Rattle.row_runs.specs.runs.contract_types.declared.contract.Contract.{Contract}
+use Rattle.row_runs.specs.runs.contract_types.declared.results.Viewed.{Viewed}
+use Rattle.row_runs.specs.runs.contract_types.Tables.{Table}
+use Rattle.row_runs.specs.runs.table_log.Logs.{table_of, caught_up}
+use Rattle.row_runs.specs.runs.coordinator.Acks.{with_ack as with_said}
+use Rattle.row_runs.specs.runs.coordinator.Proposals.{proposals_of, after_proposals}
+use Rattle.row_runs.specs.runs.exec_types.declared.input.Input.{Input}
+use Rattle.row_runs.specs.runs.exec_types.declared.input.Input.TheVariants.{Request, GiveUp, See, Tick, Deliver, Crash, Restart}
+use Rattle.row_runs.specs.runs.exec_types.declared.message.Got.{Got}
+use Rattle.row_runs.specs.runs.exec_types.declared.message.Message.{Message as Sent}
+use Rattle.row_runs.specs.runs.exec_types.declared.message.Message.TheVariants as message
+use Rattle.row_runs.specs.runs.store_api.Rows.{Rows, has_key, value_of}
+use Rattle.row_runs.specs.runs.write_dispatch.declared.decided.Decided.{Decided}
+use Rattle.row_runs.specs.runs.write_dispatch.declared.decided.KeptAck.{KeptAck}
+use Rattle.row_runs.specs.runs.write_dispatch.Dispatch.{DispatchState, Acks, ack_of, exceeds, with_ack, is_decided, pending_of, without_op}
+use Rattle.row_runs.proofs.runs.write_dispatch.Later.{no_acks-none, with_ack-other}
+use Rattle.row_runs.specs.runs.primary_exec.declared.asking.Asking.{Asking}
+use Rattle.row_runs.specs.runs.primary_exec.declared.session.Session.{Session}
+use Rattle.row_runs.specs.runs.primary_exec.Execution.{Execution, dispatch_row, started, is_live, with_acked, with_stands, got_row, decided, without_given_up, give_up_row}
+use Rattle.row_runs.specs.runs.node_core.declared.node.Brought.{Brought}
+use Rattle.row_runs.specs.runs.node_core.Parts.{Requested, is_for, dispatched, passed_on, request_all}
+use Rattle.row_runs.specs.runs.node_core.Starting.{Starting, due, start_one, start_each}
+use Rattle.row_runs.specs.runs.node_core.Step.{NodeState, Stepped, silent, leads, coordinates, propose_all, message_row, is_well_formed, brought_row, input_row, act_on}
+use Rattle.row_runs.specs.runs.Story.{Point, IsIn, points_in, points_of}
+use Rattle.row_runs.proofs.key_runs.KeyedStarts.{placed_all}
+use Rattle.row_runs.proofs.change_runs.LedHistories.{some_inner}
+use Rattle.row_runs.proofs.step_runs.Outs.{undecided_keeps, without_op_keeps, all_push}
+use Rattle.row_runs.proofs.step_runs.PointBranches.{all_at, all_from}
+use Rattle.row_runs.proofs.key_runs.Requesting.{point_at, dispatch_points}
+use Rattle.row_runs.proofs.StoredSteps.{all_step}
 
 -- ---- one more ack
 

@@ -1,68 +1,69 @@
 -- In every run, what is answered as done was counted at more than half of the voters, and each that was counted holds it.
 use Rattle.std.proofs.Common.{◌≡◌, ◌==◌, ◌⊎◌, ℕ, zero, suc, ◌+◌, ◌-◌, ◌*◌, ◌≤◌, ◌<◌, Bool, true, false, cond, ◌&&◌, nat_lt, nat_le, List, [], ◌∷◌, length, count_by, Option, Some, None, inl, inr, refl, sym, ap, ◌∙◌, subst, arith}
 use Rattle.std.proofs.lemmas.Bool.{false≢true, cond_both, and_parts, or_cases, eq-eqb, eqb-true, ltb-true, leb-true}
-use Rattle.std.proofs.lemmas.List.Sums.{sum_by-le-sum_by}
 use Rattle.std.specs.Prelude.{slice_get}
 use Rattle.std.specs.List.{AllByRecursion}
-use Rattle.region_map.specs.declared.id.Id.{Id}
-use Rattle.region_map.specs.declared.id.NodeId.{NodeId}
-use Rattle.region_map.specs.declared.region.Region.{Region}
-use Rattle.region_map.specs.Keys.{hash_of}
-use Rattle.region_map.specs.Nodes.{node_id}
-use Rattle.region_map.specs.Regions.{in_region}
-use Rattle.register_laws.specs.declared.operation.OpId.{OpId}
-use Rattle.register_laws.specs.declared.operation.Reply.{Reply}
-use Rattle.register_laws.specs.Lists.{same_op}
-use Rattle.contract_types.specs.declared.config.ShardConfig.{ShardConfig}
-use Rattle.contract_types.specs.declared.contract.Contract.{Contract}
-use Rattle.contract_types.specs.Configs.{shard_region}
-use Rattle.contract_types.specs.Setup.{SetupState, IsSetup}
-use Rattle.contract_types.specs.Tables.{setup_id, first_contract, first_contracts}
-use Rattle.table_log.specs.declared.results.Viewed.{Viewed as Results}
-use Rattle.table_log.specs.Logs.{viewed}
-use Rattle.exec_types.specs.Sessions.{same_id, same_session, setup_session_name}
-use Rattle.exec_types.specs.declared.input.Input.{Input}
-use Rattle.exec_types.specs.declared.input.Input.TheVariants.{Request, GiveUp, See, Tick, Deliver, Crash, Restart}
-use Rattle.exec_types.specs.declared.message.Message.{Message as Sent}
-use Rattle.exec_types.specs.declared.message.Message.TheVariants as message
-use Rattle.exec_types.specs.declared.message.SessionName.{SessionName}
-use Rattle.exec_types.specs.declared.outcome.Outcome.TheVariants.{Done}
-use Rattle.exec_types.specs.declared.output.Output.{Output}
-use Rattle.exec_types.specs.declared.output.Output.TheVariants.{Message, Dispatched, Viewed, Answer}
-use Rattle.store_api.specs.Rows.{has_key}
-use Rattle.store_api.specs.Versions.{point}
-use Rattle.write_dispatch.specs.declared.decided.KeptAck.{KeptAck}
-use Rattle.write_dispatch.specs.Dispatch.{ack_of, reaches, is_counted, is_temp_majority, counts_of}
-use Rattle.write_dispatch.proofs.Later.{no_acks-none}
-use Rattle.secondary_exec.specs.declared.following.Following.{Following}
-use Rattle.primary_exec.specs.declared.session.Session.{Session}
-use Rattle.primary_exec.specs.Execution.{Execution, joined, begun, join_all, setup_execution, is_session, is_any_session}
-use Rattle.node_core.specs.declared.node.Brought.{Brought}
-use Rattle.node_core.specs.declared.journal.Entry.{Entry}
-use Rattle.node_core.specs.Step.{NodeState, Stepped, is_led, executions_from, input_row, act, act_on, end_step}
-use Rattle.run_laws.specs.declared.envelope.Envelope.{Envelope}
-use Rattle.run_laws.specs.DonePoints.{IsDoneAt}
-use Rattle.run_laws.specs.Run.{sent_by, sent, opened, brought, state, IsRun}
-use Rattle.run_laws.specs.Story.{Point, IsIn, points, points_of, answer_in, or_else, answer}
-use Rattle.run_laws.proofs.Begun.{begun_branch}
-use Rattle.run_laws.proofs.Facts.{same_op-true, same_op-refl}
-use Rattle.run_laws.proofs.KeyedFacts.{History-along}
-use Rattle.run_laws.proofs.KeyedLaws.{keyed_facts}
-use Rattle.run_laws.proofs.KeyedRoles.{led}
-use Rattle.run_laws.proofs.LedHistories.{some_inner}
-use Rattle.run_laws.proofs.EndPoints.{end_points_of}
-use Rattle.run_laws.proofs.LedRoles.{IsLed, Roles, ends_kept, one_of_few}
-use Rattle.run_laws.proofs.LedRows.{kept, lead_of, leads_of}
-use Rattle.run_laws.proofs.LedRuns.{run_roles}
-use Rattle.run_laws.proofs.LedShards.{holder_is, leads_in}
-use Rattle.run_laws.proofs.LogWorldRuns.{moving}
-use Rattle.run_laws.proofs.PointBranches.{all_at, all_from}
-use Rattle.run_laws.proofs.Setups.{one_shard}
-use Rattle.run_laws.proofs.StoredPaths.{same_id-true}
-use Rattle.run_laws.proofs.StoredRuns.{run_kept}
-use Rattle.run_laws.proofs.StoredSteps.{all_weaker, all_append, IsSessionOf, Runs, Follows}
-use Rattle.run_laws.proofs.StoredSetups.{Away}
-use Rattle.run_laws.proofs.Told.{IsIn-left, IsIn-right, point_times}
+use Rattle.row_runs.specs.runs.region_map.declared.id.Id.{Id}
+use Rattle.row_runs.specs.runs.region_map.declared.id.NodeId.{NodeId}
+use Rattle.row_runs.specs.runs.region_map.declared.region.Region.{Region}
+use Rattle.row_runs.specs.runs.region_map.Keys.{hash_of}
+use Rattle.row_runs.specs.runs.region_map.Nodes.{node_id}
+use Rattle.row_runs.specs.runs.region_map.Regions.{in_region}
+use Rattle.row_runs.specs.runs.region_map.Equal.{same_id}
+use Rattle.row_runs.specs.runs.register_laws.declared.operation.OpId.{OpId}
+use Rattle.row_runs.specs.runs.register_laws.declared.operation.Reply.{Reply}
+use Rattle.row_runs.specs.runs.register_laws.Lists.{same_op}
+use Rattle.row_runs.specs.runs.contract_types.declared.config.ShardConfig.{ShardConfig}
+use Rattle.row_runs.specs.runs.contract_types.declared.contract.Contract.{Contract}
+use Rattle.row_runs.specs.runs.contract_types.declared.results.Viewed.{Viewed as Results}
+use Rattle.row_runs.specs.runs.contract_types.Configs.{shard_region}
+use Rattle.row_runs.specs.runs.contract_types.Setup.{SetupState, IsSetup}
+use Rattle.row_runs.specs.runs.contract_types.Tables.{setup_id, first_contract, first_contracts}
+use Rattle.row_runs.specs.runs.table_log.Logs.{viewed}
+use Rattle.row_runs.specs.runs.exec_types.Sessions.{same_session, setup_session_name}
+use Rattle.row_runs.specs.runs.exec_types.declared.input.Input.{Input}
+use Rattle.row_runs.specs.runs.exec_types.declared.input.Input.TheVariants.{Request, GiveUp, See, Tick, Deliver, Crash, Restart}
+use Rattle.row_runs.specs.runs.exec_types.declared.message.Message.{Message as Sent}
+use Rattle.row_runs.specs.runs.exec_types.declared.message.Message.TheVariants as message
+use Rattle.row_runs.specs.runs.exec_types.declared.message.SessionName.{SessionName}
+use Rattle.row_runs.specs.runs.exec_types.declared.outcome.Outcome.TheVariants.{Done}
+use Rattle.row_runs.specs.runs.exec_types.declared.output.Output.{Output}
+use Rattle.row_runs.specs.runs.exec_types.declared.output.Output.TheVariants.{Message, Dispatched, Viewed, Answer}
+use Rattle.row_runs.specs.runs.store_api.Rows.{has_key}
+use Rattle.row_runs.specs.runs.store_api.Versions.{point}
+use Rattle.row_runs.specs.runs.write_dispatch.declared.decided.KeptAck.{KeptAck}
+use Rattle.row_runs.specs.runs.write_dispatch.Dispatch.{ack_of, reaches, is_counted, is_temp_majority, counts_of}
+use Rattle.row_runs.proofs.runs.write_dispatch.Later.{no_acks-none}
+use Rattle.row_runs.specs.runs.secondary_exec.declared.following.Following.{Following}
+use Rattle.row_runs.specs.runs.primary_exec.declared.session.Session.{Session}
+use Rattle.row_runs.specs.runs.primary_exec.Execution.{Execution, joined, begun, join_all, setup_execution, is_session, is_any_session}
+use Rattle.row_runs.specs.runs.node_core.declared.node.Brought.{Brought}
+use Rattle.row_runs.specs.runs.node_core.declared.journal.Entry.{Entry}
+use Rattle.row_runs.specs.runs.node_core.Step.{NodeState, Stepped, is_led, executions_from, input_row, act, act_on, end_step}
+use Rattle.row_runs.specs.runs.declared.envelope.Envelope.{Envelope}
+use Rattle.row_runs.specs.runs.DonePoints.{IsDoneAt}
+use Rattle.row_runs.specs.runs.Run.{sent_by, sent, opened, brought, state, IsRun}
+use Rattle.row_runs.specs.runs.Story.{Point, IsIn, points, points_of, answer_in, or_else, answer}
+use Rattle.row_runs.proofs.step_runs.Begun.{begun_branch}
+use Rattle.row_runs.proofs.step_runs.Facts.{same_op-true, same_op-refl}
+use Rattle.row_runs.proofs.key_runs.KeyedFacts.{History-along}
+use Rattle.row_runs.proofs.key_runs.KeyedLaws.{keyed_facts}
+use Rattle.row_runs.proofs.key_runs.KeyedRoles.{led}
+use Rattle.row_runs.proofs.change_runs.LedHistories.{some_inner}
+use Rattle.row_runs.proofs.step_runs.EndPoints.{end_points_of}
+use Rattle.row_runs.proofs.lead_runs.LedRoles.{IsLed, Roles, ends_kept, one_of_few}
+use Rattle.row_runs.proofs.lead_runs.LedRows.{kept, lead_of, leads_of}
+use Rattle.row_runs.proofs.lead_runs.LedRuns.{run_roles}
+use Rattle.row_runs.proofs.lead_runs.LedShards.{holder_is, leads_in}
+use Rattle.row_runs.proofs.log_runs.LogWorldRuns.{moving}
+use Rattle.row_runs.proofs.step_runs.PointBranches.{all_at, all_from}
+use Rattle.row_runs.proofs.step_runs.Setups.{one_shard}
+use Rattle.row_runs.proofs.change_runs.StoredPaths.{same_id-true}
+use Rattle.row_runs.proofs.StoredRuns.{run_kept}
+use Rattle.row_runs.proofs.StoredSteps.{all_weaker, all_append, IsSessionOf, Runs, Follows}
+use Rattle.row_runs.proofs.StoredSetups.{Away}
+use Rattle.row_runs.proofs.step_runs.Told.{IsIn-left, IsIn-right, point_times}
+use Rattle.row_runs.proofs.runs.list_laws.Counts.{more_pass}
 use Rattle.durability_laws.specs.Held.{holds}
 use Rattle.durability_laws.proofs.Backing.{kept_cases, WaitsIn, Backed, backed_more, Brings, Ours, News, row_backed, act_backed, decide_backed}
 use Rattle.durability_laws.proofs.Holding.{led_holds, reached_holds}
@@ -442,15 +443,6 @@ one_point (x ∷ ps) p q few i j same =
     twice : (b : Bool) (t : ℕ) → b ≡ true → cond b 1 0 + t ≤ 1 → 1 ≤ t → ⊥
     twice true t e few some = omega (arith, few, some)
     twice false t e few some = false≢true e
-
--- where each member that passes one test passes another, no fewer pass it
-more_pass : (p q : ℕ → Bool) (set : List ℕ) → ((n : ℕ) → p n ≡ true → q n ≡ true) → count_by p set ≤ count_by q set
-more_pass p q set h =
-    sum_by-le-sum_by (λ n. cond (p n) 1 0) (λ n. cond (q n) 1 0) set
-    (λ n. elim (p n) as (λ c. p n ≡ c → cond c 1 0 ≤ cond (q n) 1 0) [
-      | true ↦ λ e. let passes : q n ≡ true = h n e in rw passes (omega arith)
-      | false ↦ λ _. omega arith
-    ] refl)
 
 -- the node that has a shard of a pair as its primary
 leads_there : (ss : List ShardConfig) (shard : ShardConfig) (h : ℕ) (k : List ℕ) → IsIn ss shard → in_region shard.region h k ≡ true → 1 ≤ led shard.primary.0 ss h k

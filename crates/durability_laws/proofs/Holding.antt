@@ -1,34 +1,34 @@
 -- Which nodes hold a point: the one that leads its key, and each that came to it on the branch with which the key begins.
 use Rattle.std.proofs.Common.{◌≡◌, ℕ, zero, suc, ◌≤◌, true, ◌&&◌, nat_le, List, [], ◌∷◌, ◌++◌, Option, Some, None, inl, inr, refl, sym, ap, ◌∙◌, subst, arith}
 use Rattle.std.proofs.lemmas.Bool.{false≢true, and_parts, and_from, cases_eq, leb-true, le-leb}
-use Rattle.region_map.specs.declared.id.Id.{Id}
-use Rattle.region_map.specs.Keys.{hash_of}
-use Rattle.region_map.specs.Maps.{value_at}
-use Rattle.branch_history.specs.declared.version.Version.{Version}
-use Rattle.branch_history.specs.Paths.{Branches, is_on}
-use Rattle.branch_history.specs.Histories.{IsHistory}
-use Rattle.branch_history.proofs.Births.{none_on}
-use Rattle.branch_history.proofs.Grown.{points_stay}
-use Rattle.branch_history.proofs.PathLaws.{version_same}
-use Rattle.contract_types.specs.Setup.{SetupState, IsSetup}
-use Rattle.exec_types.specs.Sessions.{same_id}
-use Rattle.store_api.specs.Versions.{point, version_of}
-use Rattle.node_core.specs.declared.journal.Entry.{Entry}
-use Rattle.node_core.specs.Step.{NodeState}
-use Rattle.run_laws.specs.Latest.{told_table}
-use Rattle.run_laws.specs.Run.{state, IsRun}
-use Rattle.run_laws.specs.Story.{Point, IsIn, points, points_of}
-use Rattle.run_laws.proofs.Asked.{history_of}
-use Rattle.run_laws.proofs.Begun.{begun_branch, is_branch}
-use Rattle.run_laws.proofs.KeyedRequests.{same_key-self}
-use Rattle.run_laws.proofs.KeyedRoles.{led}
-use Rattle.run_laws.proofs.LedRuns.{is_history}
-use Rattle.run_laws.proofs.OnPathTables.{tells}
-use Rattle.run_laws.proofs.StoredFirsts.{on_begun, leading, leader_below, some_node, keyed_node}
-use Rattle.run_laws.proofs.StoredPaths.{same_id-true, same_id-self}
-use Rattle.run_laws.proofs.StoredRuns.{run_kept}
-use Rattle.run_laws.proofs.StoredSetups.{Away}
-use Rattle.run_laws.proofs.Told.{IsIn-left}
+use Rattle.row_runs.specs.runs.region_map.declared.id.Id.{Id}
+use Rattle.row_runs.specs.runs.region_map.Keys.{hash_of}
+use Rattle.row_runs.specs.runs.region_map.Maps.{value_at}
+use Rattle.row_runs.specs.runs.region_map.Equal.{same_id}
+use Rattle.row_runs.specs.runs.branch_history.declared.version.Version.{Version}
+use Rattle.row_runs.specs.runs.branch_history.Paths.{Branches, is_on}
+use Rattle.row_runs.specs.runs.branch_history.Histories.{IsHistory}
+use Rattle.row_runs.proofs.runs.branch_history.Births.{none_on}
+use Rattle.row_runs.proofs.runs.branch_history.Grown.{points_stay}
+use Rattle.row_runs.proofs.runs.branch_history.PathLaws.{version_same}
+use Rattle.row_runs.specs.runs.contract_types.Setup.{SetupState, IsSetup}
+use Rattle.row_runs.specs.runs.store_api.Versions.{point, version_of}
+use Rattle.row_runs.specs.runs.node_core.declared.journal.Entry.{Entry}
+use Rattle.row_runs.specs.runs.node_core.Step.{NodeState}
+use Rattle.row_runs.specs.runs.Latest.{told_table}
+use Rattle.row_runs.specs.runs.Run.{state, IsRun}
+use Rattle.row_runs.specs.runs.Story.{Point, IsIn, points, points_of}
+use Rattle.row_runs.proofs.change_runs.Asked.{history_of}
+use Rattle.row_runs.proofs.step_runs.Begun.{begun_branch, is_branch}
+use Rattle.row_runs.proofs.key_runs.KeyedRequests.{same_key-self}
+use Rattle.row_runs.proofs.key_runs.KeyedRoles.{led}
+use Rattle.row_runs.proofs.lead_runs.LedRuns.{is_history}
+use Rattle.row_runs.proofs.path_runs.OnPathTables.{tells}
+use Rattle.row_runs.proofs.StoredFirsts.{on_begun, leading, leader_below, some_node, keyed_node}
+use Rattle.row_runs.proofs.change_runs.StoredPaths.{same_id-true, same_id-self}
+use Rattle.row_runs.proofs.StoredRuns.{run_kept}
+use Rattle.row_runs.proofs.StoredSetups.{Away}
+use Rattle.row_runs.proofs.step_runs.Told.{IsIn-left}
 use Rattle.durability_laws.specs.Held.{has_on, holds}
 use Rattle.durability_laws.proofs.Reached.{Reaches, reaches_more}
 

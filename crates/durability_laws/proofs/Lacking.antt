@@ -1,15 +1,15 @@
 -- In every run "no majority" is answered only with counts that are none.
 use Rattle.std.proofs.Common.{◌≡◌, ◌⊎◌, ℕ, ◌*◌, ◌≤◌, false, ◌&&◌, nat_lt, List, Option, Some, None, arith}
 use Rattle.std.proofs.lemmas.Bool.Decides.{nat_tests}
-use Rattle.contract_types.specs.declared.counts.Counts.{Counts}
-use Rattle.contract_types.specs.Setup.{SetupState, IsSetup}
-use Rattle.register_laws.specs.declared.operation.OpId.{OpId}
-use Rattle.exec_types.specs.declared.outcome.Outcome.TheVariants.{NoMajority}
-use Rattle.write_dispatch.specs.Dispatch.{is_temp_majority}
-use Rattle.node_core.specs.declared.journal.Entry.{Entry}
-use Rattle.run_laws.specs.Run.{IsRun}
-use Rattle.run_laws.specs.Story.{answer}
-use Rattle.run_laws.proofs.OnceGivenUp.{given_up_short}
+use Rattle.row_runs.specs.runs.contract_types.declared.counts.Counts.{Counts}
+use Rattle.row_runs.specs.runs.contract_types.Setup.{SetupState, IsSetup}
+use Rattle.row_runs.specs.runs.register_laws.declared.operation.OpId.{OpId}
+use Rattle.row_runs.specs.runs.exec_types.declared.outcome.Outcome.TheVariants.{NoMajority}
+use Rattle.row_runs.specs.runs.write_dispatch.Dispatch.{is_temp_majority}
+use Rattle.row_runs.specs.runs.node_core.declared.journal.Entry.{Entry}
+use Rattle.row_runs.specs.runs.Run.{IsRun}
+use Rattle.row_runs.specs.runs.Story.{answer}
+use Rattle.answer_runs.proofs.OnceGivenUp.{given_up_short}
 use Rattle.durability_laws.specs.Counted.{LacksTemporary, LacksMajority}
 
 lacks_of : (v o : ℕ) (temp : Option (ℕ × ℕ)) → (nat_lt o (2 * v) && is_temp_majority temp) ≡ false → (2 * v ≤ o) ⊎ LacksTemporary temp

@@ -3,40 +3,40 @@ use Rattle.std.proofs.Common.{◌≡◌, ◌==◌, ℕ, zero, suc, ◌+◌, true
 use Rattle.std.proofs.lemmas.Bool.{cond_both}
 use Rattle.std.specs.Prelude.{slice_get}
 use Rattle.std.specs.List.{AllByRecursion}
-use Rattle.region_map.specs.declared.id.Id.{Id}
-use Rattle.region_map.specs.declared.id.NodeId.{NodeId}
-use Rattle.region_map.specs.declared.region.Region.{Region}
-use Rattle.region_map.specs.Keys.{hash_of}
-use Rattle.region_map.specs.Nodes.{node_id}
-use Rattle.region_map.specs.Regions.{in_region}
-use Rattle.region_map.specs.Maps.{Pieced}
-use Rattle.branch_history.specs.declared.version.Version.{Version}
-use Rattle.branch_history.specs.Paths.{Branches}
-use Rattle.contract_types.specs.declared.config.ShardConfig.{ShardConfig}
-use Rattle.contract_types.specs.Setup.{SetupState}
-use Rattle.contract_types.specs.Tables.{branch_at, first_id, first_birth, first_branches, first_contract}
-use Rattle.table_log.specs.declared.results.Viewed.{Viewed}
-use Rattle.table_log.specs.Logs.{table_of, viewed}
-use Rattle.coordinator.specs.Acks.{with_ack}
-use Rattle.coordinator.specs.Proposals.{proposals_of, after_proposals}
-use Rattle.exec_types.specs.declared.input.Input.{Input}
-use Rattle.exec_types.specs.declared.input.Input.TheVariants.{Request, GiveUp, See, Tick, Deliver, Crash, Restart}
-use Rattle.exec_types.specs.declared.message.Message.{Message as Sent}
-use Rattle.exec_types.specs.declared.message.Message.TheVariants as message
-use Rattle.exec_types.specs.declared.message.Stream.{Stream}
-use Rattle.store_api.specs.Rows.{Rows, has_key}
-use Rattle.secondary_exec.specs.declared.following.Following.{Following}
-use Rattle.secondary_exec.specs.Stream.{FollowingStep, is_ours, stream_row, setup_following}
-use Rattle.node_core.specs.declared.node.Brought.{Brought}
-use Rattle.node_core.specs.declared.journal.Entry.{Entry}
-use Rattle.node_core.specs.Parts.{Streamed, taken, left_alone, stream_all}
-use Rattle.node_core.specs.Step.{NodeState, Stepped, silent, is_followed, followings_from, leads, coordinates, propose_all, message_row, is_well_formed, brought_row, input_row, act_on}
-use Rattle.run_laws.specs.Run.{brought, state}
-use Rattle.run_laws.proofs.Begun.{begun_branch}
-use Rattle.run_laws.proofs.LedHistories.{some_inner}
-use Rattle.run_laws.proofs.LogWorldRuns.{moving}
-use Rattle.run_laws.proofs.Outs.{stream_cases}
-use Rattle.run_laws.proofs.StoredSteps.{all_weaker}
+use Rattle.row_runs.specs.runs.region_map.declared.id.Id.{Id}
+use Rattle.row_runs.specs.runs.region_map.declared.id.NodeId.{NodeId}
+use Rattle.row_runs.specs.runs.region_map.declared.region.Region.{Region}
+use Rattle.row_runs.specs.runs.region_map.Keys.{hash_of}
+use Rattle.row_runs.specs.runs.region_map.Nodes.{node_id}
+use Rattle.row_runs.specs.runs.region_map.Regions.{in_region}
+use Rattle.row_runs.specs.runs.region_map.Maps.{Pieced}
+use Rattle.row_runs.specs.runs.branch_history.declared.version.Version.{Version}
+use Rattle.row_runs.specs.runs.branch_history.Paths.{Branches}
+use Rattle.row_runs.specs.runs.contract_types.declared.config.ShardConfig.{ShardConfig}
+use Rattle.row_runs.specs.runs.contract_types.declared.results.Viewed.{Viewed}
+use Rattle.row_runs.specs.runs.contract_types.Setup.{SetupState}
+use Rattle.row_runs.specs.runs.contract_types.Tables.{branch_at, first_id, first_birth, first_branches, first_contract}
+use Rattle.row_runs.specs.runs.table_log.Logs.{table_of, viewed}
+use Rattle.row_runs.specs.runs.coordinator.Acks.{with_ack}
+use Rattle.row_runs.specs.runs.coordinator.Proposals.{proposals_of, after_proposals}
+use Rattle.row_runs.specs.runs.exec_types.declared.input.Input.{Input}
+use Rattle.row_runs.specs.runs.exec_types.declared.input.Input.TheVariants.{Request, GiveUp, See, Tick, Deliver, Crash, Restart}
+use Rattle.row_runs.specs.runs.exec_types.declared.message.Message.{Message as Sent}
+use Rattle.row_runs.specs.runs.exec_types.declared.message.Message.TheVariants as message
+use Rattle.row_runs.specs.runs.exec_types.declared.message.Stream.{Stream}
+use Rattle.row_runs.specs.runs.store_api.Rows.{Rows, has_key}
+use Rattle.row_runs.specs.runs.secondary_exec.declared.following.Following.{Following}
+use Rattle.row_runs.specs.runs.secondary_exec.Stream.{FollowingStep, is_ours, stream_row, setup_following}
+use Rattle.row_runs.specs.runs.node_core.declared.node.Brought.{Brought}
+use Rattle.row_runs.specs.runs.node_core.declared.journal.Entry.{Entry}
+use Rattle.row_runs.specs.runs.node_core.Parts.{Streamed, taken, left_alone, stream_all}
+use Rattle.row_runs.specs.runs.node_core.Step.{NodeState, Stepped, silent, is_followed, followings_from, leads, coordinates, propose_all, message_row, is_well_formed, brought_row, input_row, act_on}
+use Rattle.row_runs.specs.runs.Run.{brought, state}
+use Rattle.row_runs.proofs.step_runs.Begun.{begun_branch}
+use Rattle.row_runs.proofs.change_runs.LedHistories.{some_inner}
+use Rattle.row_runs.proofs.log_runs.LogWorldRuns.{moving}
+use Rattle.row_runs.proofs.step_runs.Outs.{stream_cases}
+use Rattle.row_runs.proofs.StoredSteps.{all_weaker}
 
 -- ---- places of shards
 

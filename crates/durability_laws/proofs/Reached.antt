@@ -2,42 +2,42 @@
 use Rattle.std.proofs.Common.{◌≡◌, ◌==◌, ℕ, ◌+◌, ◌≤◌, ◌<◌, true, false, cond, ◌&&◌, nat_lt, List, [], ◌∷◌, Option, Some, None, inl, inr, refl, sym, ap, ◌∙◌, subst, arith, sum}
 use Rattle.std.proofs.Math.Nat.{mod-lt}
 use Rattle.std.proofs.lemmas.Bool.{cond_both, and_parts, ltb-true, false_from_ne_true}
-use Rattle.region_map.specs.declared.id.Id.{Id}
-use Rattle.region_map.specs.declared.id.NodeId.{NodeId}
-use Rattle.region_map.specs.declared.region.Region.{Region}
-use Rattle.region_map.specs.Keys.{hash_of}
-use Rattle.region_map.specs.Maps.{Pieced, value_at}
-use Rattle.region_map.specs.Nodes.{node_id}
-use Rattle.region_map.specs.Regions.{in_region}
-use Rattle.branch_history.specs.declared.version.Version.{Version}
-use Rattle.branch_history.specs.Paths.{id_eq}
-use Rattle.branch_history.proofs.PathLaws.{id_same}
-use Rattle.contract_types.specs.declared.contract.Contract.{Contract}
-use Rattle.contract_types.specs.Setup.{SetupState, IsSetup}
-use Rattle.contract_types.specs.Tables.{Table, first_contracts}
-use Rattle.table_log.specs.declared.results.Viewed.{Viewed}
-use Rattle.table_log.specs.Logs.{table_of, caught_up, viewed}
-use Rattle.store_api.specs.Rows.{has_key}
-use Rattle.store_api.specs.Versions.{point, is_behind, version_of, advanced_map, replaced_map}
-use Rattle.store_api.proofs.VersionMaps.{advanced_map_hashes, advanced_map_at, replaced_map_hashes}
-use Rattle.primary_exec.specs.declared.asking.Asking.{Asking}
-use Rattle.primary_exec.specs.Execution.{started_versions}
-use Rattle.node_core.specs.declared.journal.Entry.{Entry}
-use Rattle.node_core.specs.Starting.{Starting, due, start_one, start_each}
-use Rattle.node_core.specs.Step.{NodeState, Stepped, input_row, act_on}
-use Rattle.run_laws.specs.Run.{brought, state, IsRun}
-use Rattle.run_laws.specs.Story.{Point, IsIn, points_of}
-use Rattle.run_laws.proofs.AskedRuns.{contracts_stay}
-use Rattle.run_laws.proofs.Begun.{begun_branch}
-use Rattle.run_laws.proofs.KeyedRoles.{asking_region, askings_led}
-use Rattle.run_laws.proofs.KeyedRuns.{some_hash}
-use Rattle.run_laws.proofs.KeyedStarts.{started_outside}
-use Rattle.run_laws.proofs.LedRoles.{IsAsking, Roles, asked_from, roles_row, some_there}
-use Rattle.run_laws.proofs.LedRows.{Kept, kept, Done, Still, Dispatches, Streams, GoesDown, ComesUp}
-use Rattle.run_laws.proofs.LedRuns.{row_is, run_roles}
-use Rattle.run_laws.proofs.LogWorldRuns.{moving}
-use Rattle.run_laws.proofs.PointBranches.{all_at}
-use Rattle.run_laws.proofs.StoredSetups.{Away}
+use Rattle.row_runs.specs.runs.region_map.declared.id.Id.{Id}
+use Rattle.row_runs.specs.runs.region_map.declared.id.NodeId.{NodeId}
+use Rattle.row_runs.specs.runs.region_map.declared.region.Region.{Region}
+use Rattle.row_runs.specs.runs.region_map.Keys.{hash_of}
+use Rattle.row_runs.specs.runs.region_map.Maps.{Pieced, value_at}
+use Rattle.row_runs.specs.runs.region_map.Nodes.{node_id}
+use Rattle.row_runs.specs.runs.region_map.Regions.{in_region}
+use Rattle.row_runs.specs.runs.region_map.Equal.{same_id}
+use Rattle.row_runs.specs.runs.branch_history.declared.version.Version.{Version}
+use Rattle.row_runs.proofs.runs.branch_history.PathLaws.{id_same}
+use Rattle.row_runs.specs.runs.contract_types.declared.contract.Contract.{Contract}
+use Rattle.row_runs.specs.runs.contract_types.declared.results.Viewed.{Viewed}
+use Rattle.row_runs.specs.runs.contract_types.Setup.{SetupState, IsSetup}
+use Rattle.row_runs.specs.runs.contract_types.Tables.{Table, first_contracts}
+use Rattle.row_runs.specs.runs.table_log.Logs.{table_of, caught_up, viewed}
+use Rattle.row_runs.specs.runs.store_api.Rows.{has_key}
+use Rattle.row_runs.specs.runs.store_api.Versions.{point, is_behind, version_of, advanced_map, replaced_map}
+use Rattle.row_runs.proofs.runs.store_api.VersionMaps.{advanced_map_hashes, advanced_map_at, replaced_map_hashes}
+use Rattle.row_runs.specs.runs.primary_exec.declared.asking.Asking.{Asking}
+use Rattle.row_runs.specs.runs.primary_exec.Execution.{started_versions}
+use Rattle.row_runs.specs.runs.node_core.declared.journal.Entry.{Entry}
+use Rattle.row_runs.specs.runs.node_core.Starting.{Starting, due, start_one, start_each}
+use Rattle.row_runs.specs.runs.node_core.Step.{NodeState, Stepped, input_row, act_on}
+use Rattle.row_runs.specs.runs.Run.{brought, state, IsRun}
+use Rattle.row_runs.specs.runs.Story.{Point, IsIn, points_of}
+use Rattle.row_runs.proofs.change_runs.AskedRuns.{contracts_stay}
+use Rattle.row_runs.proofs.step_runs.Begun.{begun_branch}
+use Rattle.row_runs.proofs.key_runs.KeyedRoles.{asking_region, askings_led}
+use Rattle.row_runs.proofs.key_runs.KeyedRuns.{some_hash}
+use Rattle.row_runs.proofs.key_runs.KeyedStarts.{started_outside}
+use Rattle.row_runs.proofs.lead_runs.LedRoles.{IsAsking, Roles, asked_from, roles_row, some_there}
+use Rattle.row_runs.proofs.lead_runs.LedRows.{Kept, kept, Done, Still, Dispatches, Streams, GoesDown, ComesUp}
+use Rattle.row_runs.proofs.lead_runs.LedRuns.{row_is, run_roles}
+use Rattle.row_runs.proofs.log_runs.LogWorldRuns.{moving}
+use Rattle.row_runs.proofs.step_runs.PointBranches.{all_at}
+use Rattle.row_runs.proofs.StoredSetups.{Away}
 
 -- ---- versions that go forward
 
@@ -61,9 +61,9 @@ advanced_on region b to m key some branch at e =
     cond_both (in_region region (hash_of key m.hashes) key && is_behind b to (version_of m key)) (Some (point b to)) (version_of m key)
     (λ (o : Option Version). newer ≡ o → (u : ℕ) × (newer ≡ Some (point branch u)) × (at ≤ u))
     (λ comes g.
-    let behind : (id_eq branch b && nat_lt at to) ≡ true =
+    let behind : (same_id branch b && nat_lt at to) ≡ true =
     ap (is_behind b to) (sym e) ∙ (and_parts (in_region region (hash_of key m.hashes) key) (is_behind b to (version_of m key)) comes).1 in
-    let both = and_parts (id_eq branch b) (nat_lt at to) behind in
+    let both = and_parts (same_id branch b) (nat_lt at to) behind in
     let low = ltb-true at to both.1 in
     (to, g ∙ ap (λ (i : Id). Some (point i to)) (sym (id_same branch b both.0)), omega (arith, low)))
     (λ _ g. (at, g ∙ e, omega arith))

@@ -3,46 +3,46 @@
 use Rattle.std.proofs.Common.{◌≡◌, ℕ, ◌+◌, true, List, [], ◌∷◌, ◌++◌, map, filter, Option, Some, None, inl, inr, refl, sym, subst}
 use Rattle.std.proofs.lemmas.Bool.{cond_both}
 use Rattle.std.specs.List.{AllByRecursion, flat_map}
-use Rattle.region_map.specs.declared.id.Id.{Id}
-use Rattle.region_map.specs.declared.id.NodeId.{NodeId}
-use Rattle.region_map.specs.Maps.{Pieced}
-use Rattle.region_map.specs.Nodes.{has}
-use Rattle.raft_vote.specs.declared.message.RaftMessage.{RaftMessage}
-use Rattle.raft_node.specs.declared.input.RaftInput.TheVariants as raft
-use Rattle.branch_history.specs.declared.version.Version.{Version}
-use Rattle.register_laws.specs.declared.operation.OpId.{OpId}
-use Rattle.register_laws.specs.declared.operation.Op.{Op}
-use Rattle.contract_types.specs.declared.ack.Ack.{Ack}
-use Rattle.contract_types.specs.declared.change.Change.{Change}
-use Rattle.contract_types.specs.declared.contract.Contract.{Contract}
-use Rattle.contract_types.specs.declared.contract.Holder.{Holder}
-use Rattle.table_log.specs.declared.results.Viewed.{Viewed as Results}
-use Rattle.table_log.specs.Logs.{LogStepped, table_of, viewed, log_step}
-use Rattle.exec_types.specs.declared.input.Input.{Input}
-use Rattle.exec_types.specs.declared.input.Input.TheVariants.{Request, GiveUp, See, Tick, Deliver, Crash, Restart}
-use Rattle.exec_types.specs.declared.message.Message.{Message as Sent}
-use Rattle.exec_types.specs.declared.message.Message.TheVariants as message
-use Rattle.exec_types.specs.declared.message.Part.{Part}
-use Rattle.exec_types.specs.declared.message.Stream.{Stream}
-use Rattle.exec_types.specs.declared.outcome.Outcome.{Outcome}
-use Rattle.exec_types.specs.declared.outcome.Outcome.TheVariants.{Done, NotServing, NoMajority}
-use Rattle.exec_types.specs.declared.output.Output.{Output}
-use Rattle.exec_types.specs.declared.output.Output.TheVariants.{Message, Dispatched, Viewed, Answer}
-use Rattle.store_api.specs.Rows.{Rows, value_of}
-use Rattle.write_dispatch.specs.declared.decided.Decided.{Decided}
-use Rattle.write_dispatch.specs.Dispatch.{counts_of, is_decided, pending_of}
-use Rattle.secondary_exec.specs.declared.following.Following.{Following}
-use Rattle.secondary_exec.specs.Stream.{FollowingStep, is_ours, stream_row, acknowledgement}
-use Rattle.primary_exec.specs.declared.session.Session.{Session}
-use Rattle.primary_exec.specs.Execution.{Execution, has_room, sends, part_of, dispatch_row, answers, decides, decided_answers, decide_outs, given_up, give_up_outs}
-use Rattle.node_core.specs.declared.node.Brought.{Brought}
-use Rattle.node_core.specs.Parts.{Requested, Streamed, is_for, dispatched, passed_on, request_all, taken, left_alone, stream_all, give_up_all_outs, decide_all_outs}
-use Rattle.node_core.specs.Saying.{Roles as Said, is_following_under, says_to, ack_under, acknowledgements_to, acknowledges, says_under, says_all}
-use Rattle.node_core.specs.Starting.{current_of}
-use Rattle.node_core.specs.Step.{NodeState, Stepped, silent, raft_outs, with_log, with_proposals, roles_of, says_now, message_row, is_well_formed, brought_row, input_row, act, act_on, end_step}
-use Rattle.run_laws.specs.Story.{IsIn}
-use Rattle.run_laws.proofs.Outs.{stream_cases}
-use Rattle.run_laws.proofs.StoredSteps.{all_weaker, all_append}
+use Rattle.row_runs.specs.runs.region_map.declared.id.Id.{Id}
+use Rattle.row_runs.specs.runs.region_map.declared.id.NodeId.{NodeId}
+use Rattle.row_runs.specs.runs.region_map.Maps.{Pieced}
+use Rattle.row_runs.specs.runs.region_map.Nodes.{has}
+use Rattle.row_runs.specs.runs.raft_vote.declared.message.RaftMessage.{RaftMessage}
+use Rattle.row_runs.specs.runs.raft_node.declared.input.RaftInput.TheVariants as raft
+use Rattle.row_runs.specs.runs.branch_history.declared.version.Version.{Version}
+use Rattle.row_runs.specs.runs.register_laws.declared.operation.OpId.{OpId}
+use Rattle.row_runs.specs.runs.register_laws.declared.operation.Op.{Op}
+use Rattle.row_runs.specs.runs.contract_types.declared.ack.Ack.{Ack}
+use Rattle.row_runs.specs.runs.contract_types.declared.change.Change.{Change}
+use Rattle.row_runs.specs.runs.contract_types.declared.contract.Contract.{Contract}
+use Rattle.row_runs.specs.runs.contract_types.declared.contract.Holder.{Holder}
+use Rattle.row_runs.specs.runs.contract_types.declared.results.Viewed.{Viewed as Results}
+use Rattle.row_runs.specs.runs.table_log.Logs.{LogStepped, table_of, viewed, log_step}
+use Rattle.row_runs.specs.runs.exec_types.declared.input.Input.{Input}
+use Rattle.row_runs.specs.runs.exec_types.declared.input.Input.TheVariants.{Request, GiveUp, See, Tick, Deliver, Crash, Restart}
+use Rattle.row_runs.specs.runs.exec_types.declared.message.Message.{Message as Sent}
+use Rattle.row_runs.specs.runs.exec_types.declared.message.Message.TheVariants as message
+use Rattle.row_runs.specs.runs.exec_types.declared.message.Part.{Part}
+use Rattle.row_runs.specs.runs.exec_types.declared.message.Stream.{Stream}
+use Rattle.row_runs.specs.runs.exec_types.declared.outcome.Outcome.{Outcome}
+use Rattle.row_runs.specs.runs.exec_types.declared.outcome.Outcome.TheVariants.{Done, NotServing, NoMajority}
+use Rattle.row_runs.specs.runs.exec_types.declared.output.Output.{Output}
+use Rattle.row_runs.specs.runs.exec_types.declared.output.Output.TheVariants.{Message, Dispatched, Viewed, Answer}
+use Rattle.row_runs.specs.runs.store_api.Rows.{Rows, value_of}
+use Rattle.row_runs.specs.runs.write_dispatch.declared.decided.Decided.{Decided}
+use Rattle.row_runs.specs.runs.write_dispatch.Dispatch.{counts_of, is_decided, pending_of}
+use Rattle.row_runs.specs.runs.secondary_exec.declared.following.Following.{Following}
+use Rattle.row_runs.specs.runs.secondary_exec.Stream.{FollowingStep, is_ours, stream_row, acknowledgement}
+use Rattle.row_runs.specs.runs.primary_exec.declared.session.Session.{Session}
+use Rattle.row_runs.specs.runs.primary_exec.Execution.{Execution, has_room, sends, part_of, dispatch_row, answers, decides, decided_answers, decide_outs, given_up, give_up_outs}
+use Rattle.row_runs.specs.runs.node_core.declared.node.Brought.{Brought}
+use Rattle.row_runs.specs.runs.node_core.Parts.{Requested, Streamed, is_for, dispatched, passed_on, request_all, taken, left_alone, stream_all, give_up_all_outs, decide_all_outs}
+use Rattle.row_runs.specs.runs.node_core.Saying.{Roles as Said, is_following_under, says_to, ack_under, acknowledgements_to, acknowledges, says_under, says_all}
+use Rattle.row_runs.specs.runs.node_core.Starting.{current_of}
+use Rattle.row_runs.specs.runs.node_core.Step.{NodeState, Stepped, silent, raft_outs, with_log, with_proposals, roles_of, says_now, message_row, is_well_formed, brought_row, input_row, act, act_on, end_step}
+use Rattle.row_runs.specs.runs.Story.{IsIn}
+use Rattle.row_runs.proofs.step_runs.Outs.{stream_cases}
+use Rattle.row_runs.proofs.StoredSteps.{all_weaker, all_append}
 use Rattle.durability_laws.proofs.Places.{act_follows}
 
 -- ---- what is told

@@ -1,6 +1,6 @@
 -- Counts that are no majority.
 use Rattle.std.specs.Prelude.{ℕ, ◌*◌, ◌≤◌, ◌⊎◌, Option, Some, None}
-use Rattle.contract_types.specs.declared.counts.Counts.{Counts}
+use Rattle.row_runs.specs.runs.contract_types.declared.counts.Counts.{Counts}
 
 -- where temporary voters are set, twice the counted ones are at most all of them
 abbrev pub LacksTemporary : Option (ℕ × ℕ) → Type 0

@@ -1,14 +1,14 @@
 -- Which nodes hold a point: those whose version of its key has the point on its path.
 use Rattle.std.specs.Prelude.{ℕ, Bool, false, List, Option, Some, None}
-use Rattle.region_map.specs.Keys.{hash_of}
-use Rattle.branch_history.specs.declared.version.Version.{Version}
-use Rattle.branch_history.specs.Paths.{Branches, is_on}
-use Rattle.contract_types.specs.Setup.{SetupState}
-use Rattle.store_api.specs.Versions.{point, version_of}
-use Rattle.node_core.specs.declared.journal.Entry.{Entry}
-use Rattle.run_laws.specs.Latest.{told_table}
-use Rattle.run_laws.specs.Run.{state}
-use Rattle.run_laws.specs.Story.{Point}
+use Rattle.row_runs.specs.runs.region_map.Keys.{hash_of}
+use Rattle.row_runs.specs.runs.branch_history.declared.version.Version.{Version}
+use Rattle.row_runs.specs.runs.branch_history.Paths.{Branches, is_on}
+use Rattle.row_runs.specs.runs.contract_types.Setup.{SetupState}
+use Rattle.row_runs.specs.runs.store_api.Versions.{point, version_of}
+use Rattle.row_runs.specs.runs.node_core.declared.journal.Entry.{Entry}
+use Rattle.row_runs.specs.runs.Latest.{told_table}
+use Rattle.row_runs.specs.runs.Run.{state}
+use Rattle.row_runs.specs.runs.Story.{Point}
 
 -- whether a version, where there is one, has the point on its path
 abbrev pub has_on : Branches → ℕ → Point → Option Version → Bool

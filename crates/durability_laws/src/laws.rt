@@ -1,16 +1,16 @@
 //! Which nodes hold what was done, over every run: nodes tick, go down and come up, and messages come in any order, again and
 //! again, or never.
 ghost use Rattle.std.specs.Prelude.{◌≡◌, ◌<◌, ◌*◌, ℕ, List, ◌++◌, Some, true, length, count_by};
-ghost use Rattle.contract_types.specs.declared.config.ShardConfig.{ShardConfig};
-ghost use Rattle.contract_types.specs.declared.counts.Counts.{Counts};
-ghost use Rattle.contract_types.specs.Setup.{SetupState, IsSetup};
-ghost use Rattle.register_laws.specs.declared.operation.OpId.{OpId};
-ghost use Rattle.exec_types.specs.declared.outcome.Outcome.TheVariants.{NoMajority};
-ghost use Rattle.store_api.specs.Rows.{has_key};
-ghost use Rattle.node_core.specs.declared.journal.Entry.{Entry};
-ghost use Rattle.run_laws.specs.Run.{IsRun};
-ghost use Rattle.run_laws.specs.Story.{Point, IsIn, points, answer};
-ghost use Rattle.run_laws.specs.DonePoints.{IsDoneAt};
+ghost use Rattle.row_runs.specs.runs.contract_types.declared.config.ShardConfig.{ShardConfig};
+ghost use Rattle.row_runs.specs.runs.contract_types.declared.counts.Counts.{Counts};
+ghost use Rattle.row_runs.specs.runs.contract_types.Setup.{SetupState, IsSetup};
+ghost use Rattle.row_runs.specs.runs.register_laws.declared.operation.OpId.{OpId};
+ghost use Rattle.row_runs.specs.runs.exec_types.declared.outcome.Outcome.TheVariants.{NoMajority};
+ghost use Rattle.row_runs.specs.runs.store_api.Rows.{has_key};
+ghost use Rattle.row_runs.specs.runs.node_core.declared.journal.Entry.{Entry};
+ghost use Rattle.row_runs.specs.runs.Run.{IsRun};
+ghost use Rattle.row_runs.specs.runs.Story.{Point, IsIn, points, answer};
+ghost use Rattle.row_runs.specs.runs.DonePoints.{IsDoneAt};
 ghost use Rattle.durability_laws.specs.Counted.{LacksMajority};
 ghost use Rattle.durability_laws.specs.Held.{holds};
 

@@ -1,6 +1,6 @@
 //! What an answer rests on: the voters that hold what was done.
 //!
-//! Above: nothing. Below: `run_laws`.
+//! Above: nothing. Below: the laws of runs.
 //! Promise: what is done is held by more than half of the voters of its shard, from the answer on; and what is answered to
 //! lack a majority lacks it.
 #![tactic(auto)]

@@ -1,12 +1,9 @@
 -- Sessions: when two are the same, and with which a table begins.
-use Rattle.std.specs.Prelude.{ℕ, ◌==◌, Bool, ◌&&◌}
-use Rattle.region_map.specs.declared.id.Id.{Id}
+use Rattle.std.specs.Prelude.{ℕ, Bool, ◌&&◌}
 use Rattle.region_map.specs.declared.id.NodeId.{NodeId}
+use Rattle.region_map.specs.Equal.{same_id}
 use Rattle.contract_types.specs.Tables.{setup_id}
 use Rattle.exec_types.specs.declared.message.SessionName.{SessionName}
-
-abbrev pub same_id : Id → Id → Bool
-same_id a b = (a.node.0 == b.node.0) && (a.life == b.life) && (a.counter == b.counter)
 
 abbrev pub same_session : SessionName → SessionName → Bool
 same_session a b = same_id a.asked b.asked && same_id a.opened b.opened

@@ -3,7 +3,7 @@ use region_map::{Key, NodeId};
 use register_laws::{Op, OpId};
 
 /// One input of a node.
-#[derive(Debug, Drop)]
+#[derive(Drop)]
 pub enum Input {
     /// A client asks for an operation on a key.
     Request { op: OpId, key: Key, what: Op },

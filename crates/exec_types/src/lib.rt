@@ -4,7 +4,7 @@
 //! secondary applies them in order and answers each with how far it came. A session is named by two ids: that
 //! under which the secondary asked for it, and that under which the primary opened it.
 //!
-//! Above: the executors, the nodes, the journal. Below: `contract_types`, `table_log`, `store_api`, `register_laws`.
+//! Above: the executors, the nodes, the journal. Below: `contract_types`, `store_api`, `register_laws`.
 #![tactic(auto)]
 
 pub use input::Input;

@@ -31,7 +31,7 @@ impl SessionName {
 }
 
 /// One part of a session's stream.
-#[derive(Debug, Drop)]
+#[derive(Drop)]
 pub enum Part {
     /// The row that the operation at this timestamp left at its key.
     Write { at: u64, key: Key, row: Row },
@@ -40,7 +40,7 @@ pub enum Part {
 }
 
 /// A numbered part of a session's stream, from its primary.
-#[derive(Debug, Drop)]
+#[derive(Drop)]
 pub struct Stream {
     pub session: SessionName,
     pub number: u64,

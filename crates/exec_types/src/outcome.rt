@@ -4,7 +4,7 @@ use region_map::Id;
 use register_laws::Reply;
 
 /// What became of an operation.
-#[derive(Debug, Drop)]
+#[derive(Drop)]
 pub enum Outcome {
     /// It was done: its reply, and the point at which it took effect.
     Done {

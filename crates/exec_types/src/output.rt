@@ -2,12 +2,12 @@
 ghost use Rattle.std.specs.Prelude.{◌≡◌, ◌++◌, ◌∷◌, [], OnOk, OnErr};
 
 use crate::{Message, Outcome};
+use contract_types::Results;
 use memory::OutOfMemory;
 use region_map::{Id, Key, NodeId};
 use register_laws::OpId;
 use std::alloc::Global;
 use std::marker::Model;
-use table_log::Results;
 
 /// One output. Outputs of a step stand in the order of these variants, and those of one kind in the order in
 /// which the step makes them.

@@ -1,4 +1,4 @@
--- What an entry of a journal weighs: a sum over its parts, which grows with the memory that it takes.
+-- What a step weighs: a sum over the parts of its input and its outputs, which grows with the memory that these take.
 use Rattle.std.specs.Prelude.{ℕ, ◌+◌, ◌-◌, ◌^◌, min, List, length, sum_by, Option, Some, None}
 use Rattle.region_map.specs.declared.region.Region.{Region}
 use Rattle.region_map.specs.Maps.{Pieced}
@@ -15,7 +15,7 @@ use Rattle.contract_types.specs.declared.change.Change.{Change}
 use Rattle.contract_types.specs.declared.change.Change.TheVariants.{Noop, SetConfig, NewContracts, RegisterBranch}
 use Rattle.contract_types.specs.declared.config.ShardConfig.{ShardConfig}
 use Rattle.contract_types.specs.declared.contract.Contract.{Contract}
-use Rattle.table_apply.specs.declared.applied.Applied.{Applied}
+use Rattle.contract_types.specs.declared.applied.Applied.{Applied}
 use Rattle.exec_types.specs.declared.input.Input.{Input}
 use Rattle.exec_types.specs.declared.input.Input.TheVariants.{Request, GiveUp, See, Tick, Deliver, Crash, Restart}
 use Rattle.exec_types.specs.declared.message.Message.{Message}
@@ -26,7 +26,6 @@ use Rattle.exec_types.specs.declared.outcome.Outcome.{Outcome}
 use Rattle.exec_types.specs.declared.outcome.Outcome.TheVariants.{Done, NotServing, NoMajority}
 use Rattle.exec_types.specs.declared.output.Output.{Output}
 use Rattle.exec_types.specs.declared.output.Output.TheVariants as output
-use Rattle.node_core.specs.declared.journal.Entry.{Entry}
 
 -- a sum that passes the greatest number counts as that number
 abbrev pub capped : ℕ → ℕ
@@ -133,10 +132,10 @@ input_weight (Deliver message) = 0
 input_weight Crash = 0
 input_weight Restart = 0
 
--- an entry, with all its parts
-abbrev pub full_weight : Entry → ℕ
-full_weight e = 64 + input_weight e.input + sum_by output_weight e.outputs
+-- a step, with all its parts
+abbrev pub full_weight : Input → List Output → ℕ
+full_weight input outputs = 64 + input_weight input + sum_by output_weight outputs
 
--- what an entry counts
-unfoldable pub weight_of : Entry → ℕ
-weight_of e = capped (full_weight e)
+-- what a step counts
+unfoldable pub step_weight : Input → List Output → ℕ
+step_weight input outputs = capped (full_weight input outputs)

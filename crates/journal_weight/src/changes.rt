@@ -1,8 +1,7 @@
 //! The weights of the changes that a table's log holds.
 use crate::weigh::{Weigh, total};
-use contract_types::{Change, Contract, ShardConfig};
+use contract_types::{Applied, Change, Contract, ShardConfig};
 use raft_vote::LogEntry;
-use table_apply::Applied;
 
 impl Weigh for ShardConfig {
     ghost use Rattle.journal_weight.specs.Weights.{shard_weight};

@@ -1,7 +1,7 @@
-//! What the entries of a journal weigh, so that a journal has a limit that grows with the memory that it takes.
+//! What the steps of nodes weigh, so that a journal has a limit that grows with the memory that it takes.
 //!
-//! Above: `world_core`. Below: `node_core`, and the crates of what its entries hold.
-//! Promise: `weight` is the sum over all parts of an entry, or the greatest number where the sum passes it.
+//! Above: `world_core`, whose journal holds what was given and what came. Below: `exec_types`.
+//! Promise: `weight` is the sum over all parts of an input and its outputs, or the greatest number where the sum passes it.
 #![tactic(auto)]
 
 pub use steps::weight;
@@ -10,6 +10,4 @@ mod changes;
 mod maps;
 mod messages;
 pub mod steps;
-#[cfg(test)]
-mod tests;
 mod weigh;

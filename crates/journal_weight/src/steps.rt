@@ -1,10 +1,9 @@
-//! The weights of a step's input and outputs, and of the entry that it makes.
+//! The weights of a step's input and outputs.
 ghost use Rattle.std.specs.Prelude.{◌≡◌};
-ghost use Rattle.journal_weight.specs.Weights.{capped, weight_of, content_weight};
+ghost use Rattle.journal_weight.specs.Weights.{capped, step_weight, content_weight};
 
 use crate::weigh::{Weigh, total};
-use exec_types::{Input, Outcome, Output};
-use node_core::Entry;
+use exec_types::{Input, Outcome, Output, Outputs};
 use register_laws::{Op, Reply};
 
 impl Weigh for Op {
@@ -90,14 +89,14 @@ impl Weigh for Input {
     }
 }
 
-/// What an entry of a journal weighs: 64, and 64 for each output; the bytes of each key, key bound and value; 64 for
+/// What a step of a node weighs, by its input and its outputs: 64, and 64 for each output; the bytes of each key, key bound and value; 64 for
 /// each piece of a region map, and for each change of the table's log; 256 for each shard and each contract. A sum
 /// above the greatest number counts as that number.
-#[tactic(auto, unfolding(crate::specs::Weights::weight_of))]
-pub fn weight(entry: &Entry) -> u64
-    ensures { result ≡ weight_of entry.now }
+#[tactic(auto, unfolding(crate::specs::Weights::step_weight))]
+pub fn weight(input: &Input, outputs: &Outputs) -> u64
+    ensures { result ≡ step_weight input.now outputs.now }
 {
-    let given = entry.input.weigh();
-    let gave = total(entry.outputs.as_slice());
+    let given = input.weigh();
+    let gave = total(outputs.as_slice());
     given.saturating_add(gave).saturating_add(64)
 }

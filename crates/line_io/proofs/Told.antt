@@ -5,10 +5,6 @@ use Rattle.std.proofs.lemmas.List.{take-append-drop, drop-take, drop-drop}
 use Rattle.std.proofs.Common.{take-take}
 use Rattle.line_io.specs.Bytes.{Gives, Appends}
 
-pub Gives-nothing : (told : Option (List ℕ)) → Gives told [] told
-Gives-nothing None = refl
-Gives-nothing (Some xs) = refl
-
 pub Gives-more : (before now after : Option (List ℕ)) (xs ys : List ℕ) → Gives before xs now → Gives now ys after → Gives before (xs ++ ys) after
 Gives-more before now None xs ys first second = rw (first, second) refl
 Gives-more before now (Some rest) xs ys first second = rw (first, second) (ap Some (sym (append_assoc xs ys rest)))

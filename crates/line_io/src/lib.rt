@@ -27,7 +27,5 @@ pub mod sink;
 pub mod source;
 pub mod std_sink;
 pub mod std_source;
-#[cfg(test)]
-mod tests;
 pub mod write_fault;
 pub mod writing;

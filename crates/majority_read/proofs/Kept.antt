@@ -1,7 +1,7 @@
 -- A slab and a queue of its keys, after one more read and after one is taken.
-use Rattle.std.proofs.Common.{◌≡◌, ◌≢◌, ℕ, zero, suc, ◌+◌, ◌<◌, ◌==◌, Bool, true, false, cond, not, ◌&&◌, ◌||◌, nat_lt, List, [], ◌∷◌, ◌++◌, length, drop, get_or, remove, position, Option, Some, None, option_map, is_some, OnSome, refl, sym, ap, ◌∙◌, subst, arith, length-append}
+use Rattle.std.proofs.Common.{◌≡◌, ◌≢◌, ℕ, zero, suc, ◌+◌, ◌<◌, ◌==◌, true, false, cond, not, ◌&&◌, ◌||◌, nat_lt, List, [], ◌∷◌, ◌++◌, length, drop, get_or, remove, position, Option, Some, None, option_map, is_some, OnSome, refl, sym, ap, ◌∙◌, subst, arith, length-append}
 use Rattle.std.specs.List.{position_or_len}
-use Rattle.std.proofs.lemmas.Bool.{and_parts, and_from, or_parts, or_from, false≢true, not_from_false, eqb-true, eqb-false, ltb-true, lt-ltb}
+use Rattle.std.proofs.lemmas.Bool.{and_parts, and_from, or_parts, or_from, false≢true, not_from_false, eqb-true, eqb-false, ltb-true, lt-ltb, not-true, eq-eqb}
 use Rattle.std.proofs.lemmas.Bool.Decides.{nat_tests}
 use Rattle.std.proofs.lemmas.List.Edits.{length-remove}
 use Rattle.slab.specs.Slab.{Slab, get, slab_len, Updates}
@@ -33,15 +33,11 @@ record AreKeys (s : Kept) (k : ℕ) (ks : List ℕ) : Type 0 where
   apart : has_key k ks ≡ false
   rest : are_keys s ks ≡ true
 
-not_true : (b : Bool) → not b ≡ true → b ≡ false
-not_true true h = absurd (false≢true h)
-not_true false h = refl
-
 are_keys-cons : (s : Kept) (k : ℕ) (ks : List ℕ) → are_keys s (k ∷ ks) ≡ true → AreKeys s k ks
 are_keys-cons s k ks h =
     let parts = and_parts (is_some (get s k)) (not (has_key k ks) && are_keys s ks) h in
     let later = and_parts (not (has_key k ks)) (are_keys s ks) parts.1 in
-    record { here = parts.0; apart = not_true (has_key k ks) later.0; rest = later.1 }
+    record { here = parts.0; apart = not-true (has_key k ks) later.0; rest = later.1 }
 
 are_keys-from : (s : Kept) (k : ℕ) (ks : List ℕ) → is_some (get s k) ≡ true → has_key k ks ≡ false → are_keys s ks ≡ true → are_keys s (k ∷ ks) ≡ true
 are_keys-from s k ks here apart rest = and_from _ _ here (and_from _ _ (not_from_false (has_key k ks) apart) rest)
@@ -154,12 +150,9 @@ are_keys-remove s (suc i) (k ∷ ks) h =
     let parts = are_keys-cons s k ks h in
     are_keys-from s k (remove ks i) parts.here (has_key-remove k i ks parts.apart) (are_keys-remove s i ks parts.rest)
 
-eqb-same : (a : ℕ) → (a == a) ≡ true
-eqb-same a = grind arith
-
 has_key-at : (ks : List ℕ) (i d : ℕ) → i < length ks → has_key (get_or ks i d) ks ≡ true
 has_key-at [] i d l = absurd (omega arith)
-has_key-at (k ∷ ks) zero d l = rw (eqb-same k) refl
+has_key-at (k ∷ ks) zero d l = rw (eq-eqb k k refl) refl
 has_key-at (k ∷ ks) (suc i) d l =
     elim (k == get_or ks i d) as (λ c. (c || has_key (get_or ks i d) ks) ≡ true) [ true ↦ refl | false ↦ has_key-at ks i d (omega arith) ]
 

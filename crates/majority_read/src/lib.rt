@@ -14,6 +14,4 @@ pub use reads::Reads;
 pub use waiting_read::WaitingRead;
 
 pub mod reads;
-#[cfg(test)]
-mod tests;
 pub mod waiting_read;

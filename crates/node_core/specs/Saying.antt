@@ -6,9 +6,9 @@ use Rattle.region_map.specs.declared.id.NodeId.{NodeId}
 use Rattle.region_map.specs.Maps.{Pieced}
 use Rattle.region_map.specs.Made.{mask_map}
 use Rattle.region_map.specs.Nodes.{has}
+use Rattle.region_map.specs.Equal.{same_id}
 use Rattle.branch_history.specs.declared.version.Version.{Version}
 use Rattle.branch_history.specs.Equal.{same_version}
-use Rattle.branch_history.specs.Paths.{id_eq}
 use Rattle.contract_types.specs.declared.ack.Ack.{Ack}
 use Rattle.contract_types.specs.declared.ack.Ack.TheVariants.{NeedPrimary, Backfilling, Streaming}
 use Rattle.contract_types.specs.declared.contract.Contract.{Contract}
@@ -26,10 +26,10 @@ use Rattle.secondary_exec.specs.Stream.{acknowledgement}
 -- ---- whose part a contract is
 
 abbrev pub is_asking_under : Contract → Asking → Bool
-is_asking_under c a = id_eq a.contract.id c.id
+is_asking_under c a = same_id a.contract.id c.id
 
 abbrev pub is_run_under : Contract → Execution → Bool
-is_run_under c x = id_eq x.contract.id c.id
+is_run_under c x = same_id x.contract.id c.id
 
 -- it waits for this primary to let it join, in the contract's region and tenure
 abbrev pub is_waiting_under : Contract → NodeId → Waiting → Bool

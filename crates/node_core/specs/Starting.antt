@@ -9,7 +9,6 @@ use Rattle.region_map.specs.Maps.{Pieced}
 use Rattle.region_map.specs.Made.{ends_of, made, mask_map}
 use Rattle.branch_history.specs.declared.version.Version.{Version}
 use Rattle.branch_history.specs.declared.history.BranchBirth.{BranchBirth}
-use Rattle.branch_history.specs.Paths.{id_eq}
 use Rattle.branch_history.specs.Histories.{birth_of}
 use Rattle.contract_types.specs.declared.contract.Contract.{Contract}
 use Rattle.contract_types.specs.Tables.{Table, branch_at}
@@ -39,7 +38,7 @@ due t a = if is_current t a.contract.region a.branch then initial_of (birth_of t
 -- at which place the contract of an id stands
 abbrev pub place_of : List Contract → Id → ℕ
 place_of [] id = zero
-place_of (c ∷ cs) id = if id_eq c.id id then zero else suc (place_of cs id)
+place_of (c ∷ cs) id = if same_id c.id id then zero else suc (place_of cs id)
 
 -- an execution put among others that are in table order
 abbrev pub placed : List Contract → Execution → List Execution → List Execution

@@ -20,9 +20,9 @@ use Rattle.contract_types.specs.declared.change.Change.{Change}
 use Rattle.contract_types.specs.declared.config.ShardConfig.{ShardConfig}
 use Rattle.contract_types.specs.declared.contract.Contract.{Contract}
 use Rattle.contract_types.specs.declared.contract.Holder.{Holder}
+use Rattle.contract_types.specs.declared.results.Viewed.{Viewed}
 use Rattle.contract_types.specs.Tables.{Table, first_contract, first_id}
 use Rattle.table_apply.specs.Conditions.{is_held_by}
-use Rattle.table_log.specs.declared.results.Viewed.{Viewed}
 use Rattle.table_log.specs.Fitting.{fits}
 use Rattle.table_log.specs.Logs.{LogState, LogStepped, table_of, begun_log, restarted, may_take, log_step, with_proposed, caught_up, viewed}
 use Rattle.coordinator.specs.declared.acks.ContractAcks.{ContractAcks}

@@ -15,5 +15,3 @@ pub mod restarting;
 pub mod rows;
 pub mod saying;
 pub mod starting;
-#[cfg(test)]
-mod tests;

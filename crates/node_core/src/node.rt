@@ -12,7 +12,7 @@ use crate::restarting::{begin_askings, begin_waitings};
 use crate::rows::{decide, give_up, request, take_got, take_stream};
 use crate::saying::{ack_fits, say_all};
 use crate::starting::{current, start_each};
-use contract_types::{Ack, Change, Contract, Setup};
+use contract_types::{Ack, Change, Contract, Setup, Viewed};
 use coordinator::Acks;
 use exec_types::{Input, Message, Output, Outputs};
 use memory::OutOfMemory;
@@ -24,7 +24,7 @@ use secondary_exec::{Following, Waiting};
 use std::alloc::Global;
 use std::marker::Model;
 use store_plain::PlainStore;
-use table_log::{TableLog, Viewed};
+use table_log::TableLog;
 
 /// A message that the network brings, with its sender.
 #[derive(Drop)]

@@ -1,8 +1,9 @@
 -- Pending reads, and the pending operations among which they stand.
 use Rattle.std.proofs.Common.{◌≡◌, ◌==◌, ℕ, ◌+◌, ◌<◌, true, false, cond, ◌&&◌, nat_lt, nat_le, List, [], ◌∷◌, ◌++◌, Option, Some, None, option_map, nat_eq, Ok, refl, sym, ap, ◌∙◌, subst, arith}
 use Rattle.std.specs.Option.{option_eq}
-use Rattle.std.proofs.lemmas.Bool.{cond_both, and_parts, and_from, ltb-true, eqb-true, eqb-false, false≢true}
+use Rattle.std.proofs.lemmas.Bool.{and_parts, and_from, ltb-true, eqb-true, eqb-false, false≢true}
 use Rattle.std.proofs.lemmas.Bool.Decides.{nat_tests}
+use Rattle.write_dispatch.proofs.Queue.{all_above-without_op}
 use Rattle.region_map.specs.declared.id.Id.{Id}
 use Rattle.register_laws.specs.declared.operation.OpId.{OpId}
 use Rattle.register_laws.specs.declared.operation.Reply.{Reply}
@@ -296,13 +297,6 @@ skipped_reads x ds (r ∷ rs) h =
     let above : x.at < r.at = ltb-true x.at r.at (and_parts (nat_lt x.at r.at) (reads.all_above x.at rs) h).0 in
     ap (λ b. cond b (is_of r.op x.op && are_reads_of ds rs) (are_reads_of ds (r ∷ rs))) (apart_at x.at r.at above)
 
-above-without_op : (at : ℕ) (ds : List Decided) (op : OpId) → all_above at ds ≡ true → all_above at (without_op ds op) ≡ true
-above-without_op at [] op h = refl
-above-without_op at (d ∷ ds) op h =
-    let both = and_parts (nat_lt at d.at) (all_above at ds) h in
-    cond_both (is_of op d.op) ds (d ∷ without_op ds op) (λ (l : List Decided). all_above at l ≡ true)
-    (λ _. both.1) (λ _. and_from (nat_lt at d.at) (all_above at (without_op ds op)) both.0 (above-without_op at ds op both.1))
-
 same_ops : (op : OpId) (r : WaitingRead) (o : Option OpId) → is_of r.op o ≡ true → reads.is_read_of op r ≡ is_of op o
 same_ops op r None h = absurd (false≢true h)
 same_ops op r (Some q) h = ap (λ n. n == op.0) (sym (eqb-true q.0 r.op.0 h))
@@ -324,7 +318,7 @@ pub record IsLeft (op : OpId) (ds : List Decided) (rs qs : List WaitingRead) : T
 
 left_later : (op : OpId) (x : Decided) (ds : List Decided) (rs qs : List WaitingRead) → is_of op x.op ≡ false → all_above x.at ds ≡ true → are_reads_of ds rs ≡ true → IsLeft op ds rs qs → IsLeft op (x ∷ ds) rs qs
 left_later op x ds rs qs other above k rest =
-    let left_above = reads_above x.at (without_op ds op) qs (above-without_op x.at ds op above) rest.kept in
+    let left_above = reads_above x.at (without_op ds op) qs (all_above-without_op x.at ds op above) rest.kept in
     let all_above = reads_above x.at ds rs above k in
     record {
       shown = ap (λ b. with_reads (cond b ds (x ∷ without_op ds op)) qs) other ∙ skipped x (without_op ds op) qs left_above

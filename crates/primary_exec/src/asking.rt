@@ -9,7 +9,7 @@ use std::alloc::Global;
 use store_api::Store;
 
 /// What a primary keeps of a contract while it asks for a branch of its own to be registered.
-#[derive(Debug, Drop)]
+#[derive(Drop)]
 pub struct Asking {
     pub contract: Contract,
     pub branch: Id,

@@ -62,15 +62,6 @@ module _ {E : Type 0} (log : List (LogEntry E)) (view prev : ℕ) (entries : Lis
   fits_within term e = grind (arith, nat_tests)
 
   -- the view stays within a log that takes entries
-  pub taken_within : (prev_term commit : ℕ) → view ≤ length log → agrees_to_view log view prev entries ≡ true → (taken log view prev prev_term entries commit).view ≤ length (taken log view prev prev_term entries commit).log
-  taken_within prev_term commit within agrees =
-      cond_both (fits log prev prev_term)
-      (record { log = take prev log ++ merged (drop prev log) entries; view = max view (min commit (prev + length entries)); ok = true; upto = prev + length entries })
-      (record { log = log; view = view; ok = false; upto = min (prev - 1) (length log) })
-      (λ (t : Taken E). t.view ≤ length t.log)
-      (λ e. let r = merged_reaches within (fits_within prev_term e) agrees in omega arith)
-      (λ _. within)
-
   -- it never goes back
   pub taken_rises : (prev_term commit : ℕ) → view ≤ (taken log view prev prev_term entries commit).view
   taken_rises prev_term commit =

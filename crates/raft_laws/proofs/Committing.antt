@@ -4,6 +4,7 @@ use Rattle.std.proofs.lemmas.Bool.{cond_both, cases_lt, and_from}
 use Rattle.std.proofs.lemmas.Bool.Decides.{nat_tests}
 use Rattle.std.specs.Prelude.{slice_set}
 use Rattle.std.specs.List.{AllByRecursion}
+use Rattle.list_laws.proofs.All.{all_append, all_weaker, all_map, all_map_of, all_at}
 use Rattle.region_map.specs.declared.id.NodeId.{NodeId}
 use Rattle.region_map.specs.Nodes.{node_id}
 use Rattle.raft_vote.specs.declared.log.LogEntry.{LogEntry}
@@ -20,7 +21,6 @@ use Rattle.raft_node.specs.declared.input.RaftInput.TheVariants.{Tick as InputTi
 use Rattle.raft_node.specs.State.{RaftState}
 use Rattle.raft_node.specs.Rows.{RaftStepped, is_full, append_to, append_all, with_entry, won, elected, tick_row, answered, deliver_row, input_row, advanced, raft_step, proposed, ends_numbers}
 use Rattle.schedule_laws.specs.Schedules.{set_at}
-use Rattle.schedule_laws.proofs.Lists.{All-append, All-weaker, All-map, All-map_of, All-at}
 use Rattle.schedule_laws.proofs.Nodes.{set_at_both, set_at-same}
 use Rattle.schedule_laws.proofs.Runs.{run-push}
 use Rattle.raft_laws.specs.declared.event.RaftEvent.{RaftEvent}
@@ -66,7 +66,7 @@ taken_view {E = E} log view prev prev_term entries commit P old new =
     (λ _. old)
 
 shown_asks : (E : Type 0) (from : ℕ → ℕ → Type 0) (term last index : ℕ) (to : List ℕ) → AllByRecursion (λ (x : NodeId × RaftMessage E). ShowsFrom from x.1) (asks term last index to)
-shown_asks E from term last index to = All-map_of (λ (x : NodeId × RaftMessage E). ShowsFrom from x.1) (λ (n : NodeId). (n, VoteAsk term last index)) (map node_id to) (λ n. tt)
+shown_asks E from term last index to = all_map_of (λ (x : NodeId × RaftMessage E). ShowsFrom from x.1) (λ (n : NodeId). (n, VoteAsk term last index)) (map node_id to) (λ n. tt)
 
 module _ {E : Type 0} (from : ℕ → ℕ → Type 0) (weaker : (t u v w : ℕ) → t ≤ u → w ≤ v → from t v → from u w) where
   abbrev Shown : List (NodeId × RaftMessage E) → Type 0
@@ -78,7 +78,7 @@ module _ {E : Type 0} (from : ℕ → ℕ → Type 0) (weaker : (t u v w : ℕ) 
     pub sent : Shown r.sent
 
   shown_all : (s : RaftState E) → from s.votes.term s.view → Shown (append_all s)
-  shown_all s h = All-map_of (λ (x : NodeId × RaftMessage E). ShowsFrom from x.1) (λ (n : NodeId). (n, append_to s n)) (map node_id (others s.votes)) (λ n. h)
+  shown_all s h = all_map_of (λ (x : NodeId × RaftMessage E). ShowsFrom from x.1) (λ (n : NodeId). (n, append_to s n)) (map node_id (others s.votes)) (λ n. h)
 
   won_view : (noop : E) (s : RaftState E) → from s.votes.term s.view → from (won noop s).votes.term (won noop s).view
   won_view noop s h =
@@ -89,7 +89,7 @@ module _ {E : Type 0} (from : ℕ → ℕ → Type 0) (weaker : (t u v w : ℕ) 
   elected_view noop s votes sent h c =
       let t : RaftState E = record s { votes = votes } in
       cond_both (wins s.votes votes) (record { node = won noop t; sent = sent ++ append_all (won noop t) }) (record { node = t; sent = sent }) ViewFrom
-      (λ _. let led = won_view noop t h in record { view = led; sent = All-append (λ (x : NodeId × RaftMessage E). ShowsFrom from x.1) sent (append_all (won noop t)) c (shown_all (won noop t) led) })
+      (λ _. let led = won_view noop t h in record { view = led; sent = all_append (λ (x : NodeId × RaftMessage E). ShowsFrom from x.1) sent (append_all (won noop t)) c (shown_all (won noop t) led) })
       (λ _. record { view = h; sent = c })
 
   tick_view : (noop : E) (s : RaftState E) (unseen : List ℕ) → from s.votes.term s.view → ViewFrom (tick_row noop s unseen)
@@ -168,8 +168,8 @@ module _ {E : Type 0} (from : ℕ → ℕ → Type 0) (weaker : (t u v w : ℕ) 
         (λ _ lead. record {
           views = set_at_both (λ k (s : RaftState E). from s.votes.term s.view) w.node n r.node
               (advanced_view (input_row noop (w.node n) i).node x.view (lead_at w.node w.up (w.sent ++ posted n r.sent) n r.node is lead)) (λ k other. h.views k);
-          sent = All-append (λ (m : Sent E). ShowsFrom from m.message) w.sent (posted n r.sent) h.sent
-              (All-map (λ (y : NodeId × RaftMessage E). ShowsFrom from y.1) (λ (m : Sent E). ShowsFrom from m.message) (λ (y : NodeId × RaftMessage E). record { from = node_id n; to = y.0; message = y.1 }) r.sent (λ y c. c) x.sent);
+          sent = all_append (λ (m : Sent E). ShowsFrom from m.message) w.sent (posted n r.sent) h.sent
+              (all_map (λ (y : NodeId × RaftMessage E). ShowsFrom from y.1) (λ (m : Sent E). ShowsFrom from m.message) (λ (y : NodeId × RaftMessage E). record { from = node_id n; to = y.0; message = y.1 }) r.sent (λ y c. c) x.sent);
         })
         (λ _. as_before)
 
@@ -188,7 +188,7 @@ module _ {E : Type 0} (from : ℕ → ℕ → Type 0) (weaker : (t u v w : ℕ) 
     comes_view n number None is e = as_before
     comes_view n zero (Some m) is e = absurd (cc e)
     comes_view n (suc place) (Some m) is e =
-        steps_view n (InputDeliver m.from m.message) is (All-at (λ (x : Sent E). ShowsFrom from x.message) w.sent place m h.sent (message_is nodes noop w.sent n place m (slice_get w.sent place) refl e))
+        steps_view n (InputDeliver m.from m.message) is (all_at (λ (x : Sent E). ShowsFrom from x.message) w.sent place m h.sent (message_is nodes noop w.sent n place m (slice_get w.sent place) refl e))
 
     stops_view : (n : ℕ) (up : ℕ → Bool) → Viewed (record w { node = set_at w.node n (kept nodes (w.node n)); up = up })
     stops_view n up lead = record { views = set_at_both (λ k (s : RaftState E). from s.votes.term s.view) w.node n (kept nodes (w.node n)) (h.views n) (λ k other. h.views k); sent = h.sent }
@@ -227,7 +227,7 @@ module _ {E : Type 0} (f g : ℕ → ℕ → Type 0) (more : (t v : ℕ) → f t
   views-weaker w h =
       record {
         views = λ n. more (term_of_node w n) (w.node n).view (h.views n);
-        sent = All-weaker (λ (m : Sent E). ShowsFrom f m.message) (λ (m : Sent E). ShowsFrom g m.message) w.sent (λ m. shows-weaker m.message) h.sent;
+        sent = all_weaker (λ (m : Sent E). ShowsFrom f m.message) (λ (m : Sent E). ShowsFrom g m.message) w.sent (λ m. shows-weaker m.message) h.sent;
       }
 
 module _ {E : Type 0} (nodes : ℕ) (noop : E) (events : List (NodeId × RaftEvent E)) where

@@ -2,6 +2,7 @@
 use Rattle.std.proofs.Common.{◌≡◌, ◌==◌, ◌&&◌, ℕ, zero, suc, ◌<◌, nat_lt, cond, not, true, false, inl, inr, List, [], ◌∷◌, ◌++◌, length, take, Option, Some, None, refl, ap, ◌∙◌, arith, slice_get}
 use Rattle.std.proofs.lemmas.Bool.{cases_Bool, cond_both, or_left, or_right, ltb-true, ltb-false, le-ltb, ne_eqb}
 use Rattle.std.specs.List.{AllByRecursion}
+use Rattle.list_laws.proofs.All.{all_append, all_map_of, all_at}
 use Rattle.region_map.specs.declared.id.NodeId.{NodeId}
 use Rattle.region_map.specs.Nodes.{node_id, with_member}
 use Rattle.raft_vote.specs.declared.message.RaftMessage.{RaftMessage}
@@ -13,7 +14,6 @@ use Rattle.raft_node.specs.declared.input.RaftInput.TheVariants.{Tick as InputTi
 use Rattle.raft_node.specs.State.{RaftState}
 use Rattle.raft_node.specs.Rows.{raft_step, ends_numbers, proposed, is_full, keeps_view}
 use Rattle.schedule_laws.specs.Schedules.{set_at}
-use Rattle.schedule_laws.proofs.Lists.{All-append, All-map_of, All-at}
 use Rattle.schedule_laws.proofs.Runs.{run_keeps}
 use Rattle.raft_laws.specs.declared.event.RaftEvent.{RaftEvent}
 use Rattle.raft_laws.specs.declared.event.RaftEvent.TheVariants.{Tick, Propose, Deliver, Crash, Restart}
@@ -55,8 +55,8 @@ module _ {E : Type 0} (nodes : ℕ) (noop : E) where
   from_steps w n i l h =
       let r = raft_step noop (w.node n) i in
       cond_both (not (ends_numbers (w.node n) i)) (record w { node = set_at w.node n r.node; sent = w.sent ++ posted n r.sent }) w FromNodes
-      (λ _. All-append (λ (m : Sent E). m.from.0 < nodes) w.sent (posted n r.sent) h
-      (All-map_of (λ (m : Sent E). m.from.0 < nodes) (λ (x : NodeId × RaftMessage E). record { from = node_id n; to = x.0; message = x.1 }) r.sent (λ x. l)))
+      (λ _. all_append (λ (m : Sent E). m.from.0 < nodes) w.sent (posted n r.sent) h
+      (all_map_of (λ (m : Sent E). m.from.0 < nodes) (λ (x : NodeId × RaftMessage E). record { from = node_id n; to = x.0; message = x.1 }) r.sent (λ x. l)))
       (λ _. h)
 
   from_proposes : (w : World E) (n : ℕ) (change : E) → FromNodes w → FromNodes (proposes w n change)
@@ -96,7 +96,7 @@ module _ {E : Type 0} (nodes : ℕ) (noop : E) where
 
   from_number : (w : World E) (n number : ℕ) (m : Sent E) → FromNodes w → message_to w.sent n number ≡ Some m → m.from.0 < nodes
   from_number w n zero m h e = absurd (cc e)
-  from_number w n (suc place) m h e = All-at (λ (x : Sent E). x.from.0 < nodes) w.sent place m h (message_is w.sent n place m (slice_get w.sent place) refl e)
+  from_number w n (suc place) m h e = all_at (λ (x : Sent E). x.from.0 < nodes) w.sent place m h (message_is w.sent n place m (slice_get w.sent place) refl e)
 
   pub sender_is : (events : List (NodeId × RaftEvent E)) (i n number : ℕ) (m : Sent E) → message_to (moment nodes noop events i).sent n number ≡ Some m → m.from.0 < nodes
   sender_is events i n number m e =

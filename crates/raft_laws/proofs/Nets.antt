@@ -1,24 +1,23 @@
 -- A world in code that goes on by an event is still one that a run leads to.
-use Rattle.std.proofs.Common.{◌≡◌, ◌==◌, ◌&&◌, ℕ, ◌<◌, ◌≤◌, nat_lt, cond, not, Bool, true, false, ◌⊎◌, inl, inr, List, [], ◌∷◌, ◌++◌, length, take, set, get_or, Result, Ok, Err, OnOk, IsErrOf, IsErrAnd, Option, Some, None, refl, sym, ap, subst, ◌∙◌, arith, replicate, length-append, get_or-set_same, get_or-set_other}
+use Rattle.std.proofs.Common.{◌≡◌, ℕ, ◌<◌, ◌≤◌, nat_lt, Bool, true, false, ◌⊎◌, inl, inr, List, [], ◌∷◌, ◌++◌, length, take, set, get_or, Result, Ok, Err, OnOk, IsErrOf, IsErrAnd, Option, Some, None, refl, sym, ap, subst, ◌∙◌, arith, replicate, length-append, get_or-set_same, get_or-set_other}
 use Rattle.std.proofs.Math.Path.{fun_ext}
 use Rattle.std.proofs.lemmas.List.{get_or_default, get_or-replicate, get_or_past, length-replicate, take_all}
-use Rattle.std.proofs.lemmas.Bool.{cond_both, eqb-true, cases_eq, cases_lt, eq-eqb, ne_eqb, lt-ltb}
+use Rattle.std.proofs.lemmas.Bool.{cases_eq, cases_lt, eq-eqb, ne_eqb, lt-ltb}
 use Rattle.region_map.specs.declared.id.NodeId.{NodeId}
 use Rattle.region_map.specs.Nodes.{node_id}
 use Rattle.raft_node.specs.declared.input.RaftInput.{RaftInput}
 use Rattle.raft_node.specs.declared.input.RaftInput.TheVariants.{Tick as InputTick, Deliver as InputDeliver}
 use Rattle.raft_node.specs.State.{RaftState}
 use Rattle.raft_vote.specs.declared.log.LogEntry.{LogEntry}
-use Rattle.raft_vote.specs.Rows.{is_leader}
-use Rattle.raft_node.specs.Rows.{proposed, is_full, raft_step, ends_numbers, is_well_formed}
+use Rattle.raft_node.specs.Rows.{raft_step, ends_numbers, is_well_formed}
 use Rattle.schedule_laws.specs.Schedules.{set_at}
 use Rattle.schedule_laws.proofs.Runs.{run-push}
 use Rattle.raft_laws.specs.declared.event.RaftEvent.{RaftEvent}
-use Rattle.raft_laws.specs.declared.event.RaftEvent.TheVariants.{Tick, Propose, Deliver, Crash, Restart}
+use Rattle.raft_laws.specs.declared.event.RaftEvent.TheVariants.{Tick, Deliver}
 use Rattle.raft_laws.specs.declared.event.Sent.{Sent}
-use Rattle.raft_laws.specs.World.{World, start, posted, steps, comes, acts, rests, kept, happens, after, moment, committed, message_to}
+use Rattle.raft_laws.specs.World.{World, start, posted, steps, comes, acts, happens, after, moment, committed, message_to}
 use Rattle.raft_laws.specs.Laws.{IsFrontOf}
-use Rattle.raft_laws.specs.Net.{RaftNet, IsReached, node_in, up_in, world_in, world_of, put_to, Arrives, ends_message}
+use Rattle.raft_laws.specs.Net.{RaftNet, IsReached, node_in, up_in, world_in, world_of, Arrives, ends_message}
 use Rattle.raft_laws.proofs.Logs.{front_of}
 use Rattle.raft_laws.proofs.Runs.{run_since, no_past, start_good}
 use Rattle.raft_laws.proofs.Moments.{nodes_agree, views_grow, deliveries_fit}
@@ -105,19 +104,6 @@ module _ {E : Type 0} (noop : E) (nodes : ℕ) where
             rw test (get_or-set_other states n k t (node_in nodes [] k) other)
       ])
 
-  ups_is : (up : List Bool) (n : ℕ) (b : Bool) → n < length up → (λ (k : ℕ). up_in (set up n b) k) ≡ set_at (λ k. up_in up k) n b
-  ups_is up n b h =
-      fun_ext (λ k.
-      elim (cases_eq k n) [
-        | inl same ↦
-            let test = eq-eqb k n same in
-            let within : k < length up = omega (arith, same, h) in
-            rw test (ap (λ m. up_in (set up m b) k) (sym same) ∙ get_or-set_same up k b true within)
-        | inr other ↦
-            let test = ne_eqb k n other in
-            rw test (get_or-set_other up n k b true other)
-      ])
-
 -- what a node acts on, as it is read from the lists
 pub committed_agrees : {E : Type 0} (noop : E) (nodes : ℕ) (states : List (RaftState E)) (up : List Bool) (sent : List (Sent E)) → IsReached noop nodes states up sent → (v : RaftNet E) → record { nodes = nodes; states = states; ups = up; sent = sent } ≡ v
     → (n : ℕ) (list : List (LogEntry E)) → list ≡ committed (world_in nodes states [] []) n → (other : ℕ) → IsFrontOf list (committed (world_of v) other) ⊎ IsFrontOf (committed (world_of v) other) list
@@ -128,7 +114,7 @@ committed_agrees {E = E} noop nodes states up sent r v e n list is other =
 
 -- ---- what an event does
 
-module _ {E : Type 0} (noop : E) (nodes : ℕ) (states : List (RaftState E)) (up : List Bool) (sent : List (Sent E)) (n : NodeId) (below : n.0 < nodes) (held : length states ≡ nodes) (ups_held : length up ≡ nodes) where
+module _ {E : Type 0} (noop : E) (nodes : ℕ) (states : List (RaftState E)) (up : List Bool) (sent : List (Sent E)) (n : NodeId) (below : n.0 < nodes) (held : length states ≡ nodes) where
   abbrev v : World E
   v = world_in nodes states up sent
 
@@ -144,9 +130,6 @@ module _ {E : Type 0} (noop : E) (nodes : ℕ) (states : List (RaftState E)) (up
   acts_is : (event : RaftEvent E) (x : World E) → up_in up n.0 ≡ true → x ≡ acts nodes noop v n.0 event → x ≡ happens nodes noop v (n, event)
   acts_is event x is e = let test : nat_lt n.0 nodes ≡ true = lt-ltb n.0 nodes below in rw (test, is) e
 
-  rests_is : (event : RaftEvent E) (x : World E) → up_in up n.0 ≡ false → x ≡ rests nodes v n.0 event → x ≡ happens nodes noop v (n, event)
-  rests_is event x is e = let test : nat_lt n.0 nodes ≡ true = lt-ltb n.0 nodes below in rw (test, is) e
-
   pub tick_is : (unseen : List ℕ) (states_now : List (RaftState E)) (sent_now : List (Sent E)) → up_in up n.0 ≡ true → ends_numbers (node_in nodes states n.0) (InputTick unseen) ≡ false
       → states_now ≡ set states n.0 (raft_step noop (node_in nodes states n.0) (InputTick unseen)).node → sent_now ≡ sent ++ posted n.0 (raft_step noop (node_in nodes states n.0) (InputTick unseen)).sent
       → world_in nodes states_now up sent_now ≡ happens nodes noop v (n, Tick unseen)
@@ -158,40 +141,6 @@ module _ {E : Type 0} (noop : E) (nodes : ℕ) (states : List (RaftState E)) (up
   arrives_is number states_now sent_now is (Some m) e ends a =
       acts_is (Deliver number) (world_in nodes states_now up sent_now) is
       (steps_is (InputDeliver m.from m.message) states_now sent_now ends a.0 a.1 ∙ ap (comes noop v n.0) (sym e))
-
-  pub put_is : (change : E) (states_now : List (RaftState E)) → up_in up n.0 ≡ true → states_now ≡ set states n.0 (put_to (node_in nodes states n.0) change)
-      → world_in nodes states_now up sent ≡ happens nodes noop v (n, Propose change)
-  put_is change states_now is a =
-      let s = node_in nodes states n.0 in
-      let test = is_leader s.votes.role && not (is_full s.log) in
-      let set_to : (x : RaftState E) → world_in nodes (set states n.0 x) up sent ≡ record v { node = set_at v.node n.0 x } = λ x.
-      same_world (λ k. node_in nodes (set states n.0 x) k) (set_at (λ k. node_in nodes states k) n.0 x) (λ k. up_in up k) (λ k. up_in up k) sent sent (set_is noop nodes states n.0 x (omega (arith, below, held))) refl refl in
-      let same : set_at v.node n.0 s ≡ v.node = fun_ext (λ k. cond_both (k == n.0) s (v.node k) (λ (y : RaftState E). y ≡ v.node k) (λ t. ap v.node (sym (eqb-true k n.0 t))) (λ _. refl)) in
-      let choose : record v { node = set_at v.node n.0 (cond test (proposed s change) s) } ≡ cond test (record v { node = set_at v.node n.0 (proposed s change) }) v =
-      elim test as (λ (b : Bool). record v { node = set_at v.node n.0 (cond b (proposed s change) s) } ≡ cond b (record v { node = set_at v.node n.0 (proposed s change) }) v) [
-        | true ↦ refl
-        | false ↦ ap (λ (f : ℕ → RaftState E). record v { node = f }) same
-      ] in
-      acts_is (Propose change) (world_in nodes states_now up sent) is
-      (ap (λ xs. world_in nodes xs up sent) a ∙ set_to (put_to s change) ∙ choose)
-
-  stopped : (states_now : List (RaftState E)) (up_now : List Bool) (b : Bool) → states_now ≡ set states n.0 (kept nodes (node_in nodes states n.0)) → up_now ≡ set up n.0 b
-      → world_in nodes states_now up_now sent ≡ record v { node = set_at v.node n.0 (kept nodes (v.node n.0)); up = set_at v.up n.0 b }
-  stopped states_now up_now b a u =
-      same_world (λ k. node_in nodes states_now k) (set_at (λ k. node_in nodes states k) n.0 (kept nodes (node_in nodes states n.0))) (λ k. up_in up_now k) (set_at (λ k. up_in up k) n.0 b) sent sent
-      (ap (λ xs k. node_in nodes xs k) a ∙ set_is noop nodes states n.0 (kept nodes (node_in nodes states n.0)) (omega (arith, below, held)))
-      (ap (λ xs k. up_in xs k) u ∙ ups_is noop nodes up n.0 b (omega (arith, below, ups_held))) refl
-
-  pub crash_is : (states_now : List (RaftState E)) (up_now : List Bool) → up_in up n.0 ≡ true → states_now ≡ set states n.0 (kept nodes (node_in nodes states n.0)) → up_now ≡ set up n.0 false
-      → world_in nodes states_now up_now sent ≡ happens nodes noop v (n, Crash)
-  crash_is states_now up_now is a u = acts_is Crash (world_in nodes states_now up_now sent) is (stopped states_now up_now false a u)
-
-  pub restart_is : (states_now : List (RaftState E)) (up_now : List Bool) → up_in up n.0 ≡ false → states_now ≡ set states n.0 (kept nodes (node_in nodes states n.0)) → up_now ≡ set up n.0 true
-      → world_in nodes states_now up_now sent ≡ happens nodes noop v (n, Restart)
-  restart_is states_now up_now is a u = rests_is Restart (world_in nodes states_now up_now sent) is (stopped states_now up_now true a u)
-
-  pub up_already : up_in up n.0 ≡ true → v ≡ happens nodes noop v (n, Restart)
-  up_already is = acts_is Restart v is refl
 
 -- ---- what an answer says
 

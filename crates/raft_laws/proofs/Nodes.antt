@@ -2,6 +2,7 @@
 use Rattle.std.proofs.Common.{◌≡◌, ◌==◌, ℕ, suc, ◌<◌, ◌≤◌, Bool, true, false, ◌⊎◌, inl, inr, List, ◌++◌, length, take, drop, Some, None, refl, sym, ap, subst, ◌∙◌, arith, length-take}
 use Rattle.std.proofs.lemmas.Bool.{both_ways, eq-eqb}
 use Rattle.std.specs.List.{AllByRecursion}
+use Rattle.list_laws.proofs.All.{all_append, all_weaker}
 use Rattle.region_map.specs.declared.id.NodeId.{NodeId}
 use Rattle.region_map.specs.Nodes.{has, node_id}
 use Rattle.raft_vote.specs.declared.log.LogEntry.{LogEntry}
@@ -13,7 +14,6 @@ use Rattle.raft_vote.specs.Log.{term_at, last_term}
 use Rattle.raft_append.specs.declared.peers.Progress.{Progress}
 use Rattle.raft_append.specs.Peers.{progress_at}
 use Rattle.raft_node.specs.State.{RaftState}
-use Rattle.schedule_laws.proofs.Lists.{All-append, All-weaker}
 use Rattle.raft_laws.specs.World.{Sent, World}
 use Rattle.raft_laws.proofs.Logs.{front_of, IsUpTo}
 use Rattle.raft_laws.proofs.Past.{Past, Ballot, Reign, Cast, Cast-grows, Grows, Grows-same, Grows-more, Grounded, Grounded-grows, for_whom}
@@ -241,7 +241,7 @@ module _ {E : Type 0} (nodes : List ℕ) (w : World E) (n : ℕ) where
           self = c.here.self;
           others = c.here.others;
           past = c.here.past;
-          said = All-append (λ (m : Sent E). IsSo nodes c.now m.from m.to m.message) xs ys c.here.said (f c.now c.grows c.here.self);
+          said = all_append (λ (m : Sent E). IsSo nodes c.now m.from m.to m.message) xs ys c.here.said (f c.now c.grows c.here.self);
         };
       }
 
@@ -251,7 +251,7 @@ module _ {E : Type 0} (nodes : List ℕ) (w : World E) (n : ℕ) where
       record {
         now = c.now;
         grows = c.grows;
-        here = record { self = c.here.self; others = c.here.others; past = c.here.past; said = All-append (λ (m : Sent E). IsSo nodes c.now m.from m.to m.message) xs ys c.here.said so };
+        here = record { self = c.here.self; others = c.here.others; past = c.here.past; said = all_append (λ (m : Sent E). IsSo nodes c.now m.from m.to m.message) xs ys c.here.said so };
       }
 
   -- a past that changes for this node alone
@@ -264,7 +264,7 @@ module _ {E : Type 0} (nodes : List ℕ) (w : World E) (n : ℕ) where
           self = self;
           others = λ k other. NodeOk-beside nodes n p q b k other (w.node k) (h.others k other);
           past = ok;
-          said = All-weaker (λ (m : Sent E). IsSo nodes p m.from m.to m.message) (λ (m : Sent E). IsSo nodes q m.from m.to m.message) xs (λ m. IsSo-grows nodes p q b.grows m.from m.to m.message) h.said;
+          said = all_weaker (λ (m : Sent E). IsSo nodes p m.from m.to m.message) (λ (m : Sent E). IsSo nodes q m.from m.to m.message) xs (λ m. IsSo-grows nodes p q b.grows m.from m.to m.message) h.said;
         };
       }
 

@@ -2,6 +2,8 @@
 use Rattle.std.proofs.Common.{◌≡◌, ◌==◌, ◌&&◌, ℕ, zero, suc, ◌≤◌, nat_lt, cond, not, Bool, true, false, List, [], ◌∷◌, ◌++◌, Option, Some, None, refl, sym, ap, subst, ◌∙◌, arith, slice_get}
 use Rattle.std.proofs.lemmas.Bool.{cond_both, eqb-true, and_parts}
 use Rattle.std.specs.List.{AllByRecursion}
+use Rattle.std.proofs.lemmas.Option.{none-some}
+use Rattle.list_laws.proofs.All.{all_at}
 use Rattle.region_map.specs.declared.id.NodeId.{NodeId}
 use Rattle.region_map.specs.Nodes.{node_id}
 use Rattle.raft_vote.specs.Log.{term_at}
@@ -11,7 +13,6 @@ use Rattle.raft_node.specs.declared.input.RaftInput.TheVariants.{Tick as InputTi
 use Rattle.raft_node.specs.State.{RaftState}
 use Rattle.raft_node.specs.Rows.{raft_step, ends_numbers, proposed, is_full}
 use Rattle.schedule_laws.specs.Schedules.{set_at, run}
-use Rattle.schedule_laws.proofs.Lists.{All-at}
 use Rattle.schedule_laws.proofs.Nodes.{set_at_both}
 use Rattle.raft_laws.specs.declared.event.RaftEvent.{RaftEvent}
 use Rattle.raft_laws.specs.declared.event.RaftEvent.TheVariants.{Tick, Propose, Deliver, Crash, Restart}
@@ -21,9 +22,6 @@ use Rattle.raft_laws.proofs.Claims.{PastOk}
 use Rattle.raft_laws.proofs.Nodes.{NodeOk, IsSo, Comes, stay, goes_to}
 use Rattle.raft_laws.proofs.Counting.{stops}
 use Rattle.raft_laws.proofs.Rows.{IsGiven, step_goes, propose_goes}
-
-none_some : {X : Type 0} (x : X) → None ≡ Some x → ⊥
-none_some x e = cc
 
 -- there is no term in an empty log
 empty_upto : (E : Type 0) (i : ℕ) → term_at {E = E} [] i ≤ 0
@@ -92,7 +90,7 @@ module _ {E : Type 0} (nodes : ℕ) where
   message_so p w n (suc place) m g e =
       let found = addressed_is w.sent n place m (slice_get w.sent place) refl e in
       subst (λ (to : NodeId). IsSo (all_nodes nodes) p m.from to m.message) found.1
-      (All-at (λ (x : Sent E). IsSo (all_nodes nodes) p x.from x.to x.message) w.sent place m g.said found.0)
+      (all_at (λ (x : Sent E). IsSo (all_nodes nodes) p x.from x.to x.message) w.sent place m g.said found.0)
 
   comes_since : (noop : E) (p : Past E) (w : World E) (n number : ℕ) (o : Option (Sent E)) → message_to w.sent n number ≡ o → Good nodes p w → Since nodes p (comes noop w n o)
   comes_since noop p w n number None e g = same_since p w g
@@ -147,10 +145,10 @@ module _ {E : Type 0} (nodes : ℕ) where
           role = tt;
           grounded = Grounded-nil no_past;
           upto = record { at = λ i l. empty_upto E i };
-          led = λ t r e l. absurd (none_some r e);
+          led = λ t r e l. absurd (none-some r e);
           acked = λ t h. absurd (omega (arith, h));
           seen = λ h. absurd (omega (arith, h));
         };
-        past = record { reigns = λ t r e. absurd (none_some r e); ballots = λ k t b e. absurd (none_some b e) };
+        past = record { reigns = λ t r e. absurd (none-some r e); ballots = λ k t b e. absurd (none-some b e) };
         said = tt;
       }

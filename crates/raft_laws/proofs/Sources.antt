@@ -4,6 +4,7 @@ use Rattle.std.proofs.lemmas.Bool.{cond_both, and_from, and_parts}
 use Rattle.std.proofs.lemmas.List.Sums.{common_prefix_len-le}
 use Rattle.std.specs.Prelude.{slice_set}
 use Rattle.std.specs.List.{AllByRecursion}
+use Rattle.list_laws.proofs.All.{all_append, all_weaker, all_map, all_map_of, all_at}
 use Rattle.region_map.specs.declared.id.NodeId.{NodeId}
 use Rattle.region_map.specs.Nodes.{node_id}
 use Rattle.raft_vote.specs.declared.log.LogEntry.{LogEntry}
@@ -20,7 +21,6 @@ use Rattle.raft_node.specs.declared.input.RaftInput.TheVariants.{Tick as InputTi
 use Rattle.raft_node.specs.State.{RaftState}
 use Rattle.raft_node.specs.Rows.{RaftStepped, is_full, entries_limit, prev_for, append_to, append_all, with_entry, won, elected, tick_row, answered, deliver_row, input_row, advanced, raft_step, proposed, ends_numbers}
 use Rattle.schedule_laws.specs.Schedules.{set_at}
-use Rattle.schedule_laws.proofs.Lists.{All-append, All-weaker, All-map, All-map_of, All-at}
 use Rattle.schedule_laws.proofs.Nodes.{set_at_both}
 use Rattle.schedule_laws.proofs.Runs.{run-push}
 use Rattle.raft_laws.specs.declared.event.RaftEvent.{RaftEvent}
@@ -86,10 +86,10 @@ module _ {E : Type 0} (from : ℕ → LogEntry E → Type 0) where
     pub sent : Carried r.sent
 
   carried_all : (s : RaftState E) → EachFrom from 0 s.log → Carried (append_all s)
-  carried_all s h = All-map_of (λ (x : NodeId × RaftMessage E). CarriesFrom from x.1) (λ (n : NodeId). (n, append_to s n)) (map node_id (others s.votes)) (λ n. each-take entries_limit (prev_for s n) (drop (prev_for s n) s.log) (each-behind (prev_for s n) s.log h))
+  carried_all s h = all_map_of (λ (x : NodeId × RaftMessage E). CarriesFrom from x.1) (λ (n : NodeId). (n, append_to s n)) (map node_id (others s.votes)) (λ n. each-take entries_limit (prev_for s n) (drop (prev_for s n) s.log) (each-behind (prev_for s n) s.log h))
 
   carried_asks : (term last index : ℕ) (to : List ℕ) → Carried (asks term last index to)
-  carried_asks term last index to = All-map_of (λ (x : NodeId × RaftMessage E). CarriesFrom from x.1) (λ (n : NodeId). (n, VoteAsk term last index)) (map node_id to) (λ n. tt)
+  carried_asks term last index to = all_map_of (λ (x : NodeId × RaftMessage E). CarriesFrom from x.1) (λ (n : NodeId). (n, VoteAsk term last index)) (map node_id to) (λ n. tt)
 
   each-entry : (log : List (LogEntry E)) (e : LogEntry E) → EachFrom from 0 log → from (suc (length log)) e → EachFrom from 0 (log ++ e ∷ [])
   each-entry log e h f =
@@ -107,7 +107,7 @@ module _ {E : Type 0} (from : ℕ → LogEntry E → Type 0) where
     elected_from s votes sent h c =
         let t : RaftState E = record s { votes = votes } in
         cond_both (wins s.votes votes) (record { node = won noop t; sent = sent ++ append_all (won noop t) }) (record { node = t; sent = sent }) StepFrom
-        (λ _. let led = won_from t h in record { log = led; sent = All-append (λ (x : NodeId × RaftMessage E). CarriesFrom from x.1) sent (append_all (won noop t)) c (carried_all (won noop t) led) })
+        (λ _. let led = won_from t h in record { log = led; sent = all_append (λ (x : NodeId × RaftMessage E). CarriesFrom from x.1) sent (append_all (won noop t)) c (carried_all (won noop t) led) })
         (λ _. record { log = h; sent = c })
 
     tick_from : (s : RaftState E) (unseen : List ℕ) → EachFrom from 0 s.log → StepFrom (tick_row noop s unseen)
@@ -155,8 +155,8 @@ module _ {E : Type 0} (from : ℕ → LogEntry E → Type 0) where
           cond_both (not (ends_numbers (w.node n) i)) (record w { node = set_at w.node n r.node; sent = w.sent ++ posted n r.sent }) w (HasSources from)
           (λ _. record {
             logs = set_at_both (λ k (s : RaftState E). EachFrom from 0 s.log) w.node n r.node (advanced_from (input_row noop (w.node n) i).node x.log) (λ k other. h.logs k);
-            sent = All-append (λ (m : Sent E). CarriesFrom from m.message) w.sent (posted n r.sent) h.sent
-                (All-map (λ (y : NodeId × RaftMessage E). CarriesFrom from y.1) (λ (m : Sent E). CarriesFrom from m.message) (λ (y : NodeId × RaftMessage E). record { from = node_id n; to = y.0; message = y.1 }) r.sent (λ y c. c) x.sent);
+            sent = all_append (λ (m : Sent E). CarriesFrom from m.message) w.sent (posted n r.sent) h.sent
+                (all_map (λ (y : NodeId × RaftMessage E). CarriesFrom from y.1) (λ (m : Sent E). CarriesFrom from m.message) (λ (y : NodeId × RaftMessage E). record { from = node_id n; to = y.0; message = y.1 }) r.sent (λ y c. c) x.sent);
           })
           (λ _. h)
 
@@ -175,7 +175,7 @@ module _ {E : Type 0} (from : ℕ → LogEntry E → Type 0) where
       comes_from n number None e = h
       comes_from n zero (Some m) e = absurd (cc e)
       comes_from n (suc place) (Some m) e =
-          steps_from n (InputDeliver m.from m.message) (All-at (λ (x : Sent E). CarriesFrom from x.message) w.sent place m h.sent (message_is nodes noop w.sent n place m (slice_get w.sent place) refl e))
+          steps_from n (InputDeliver m.from m.message) (all_at (λ (x : Sent E). CarriesFrom from x.message) w.sent place m h.sent (message_is nodes noop w.sent n place m (slice_get w.sent place) refl e))
 
       stops_from : (n : ℕ) (up : ℕ → Bool) → HasSources from (record w { node = set_at w.node n (kept nodes (w.node n)); up = up })
       stops_from n up = record { logs = set_at_both (λ k (s : RaftState E). EachFrom from 0 s.log) w.node n (kept nodes (w.node n)) (h.logs n) (λ k other. h.logs k); sent = h.sent }
@@ -226,7 +226,7 @@ module _ {E : Type 0} (f g : ℕ → LogEntry E → Type 0) (weaker : (index : �
   sources-weaker w h =
       record {
         logs = λ n. each-weaker 0 (log_of w n) (h.logs n);
-        sent = All-weaker (λ (m : Sent E). CarriesFrom f m.message) (λ (m : Sent E). CarriesFrom g m.message) w.sent (λ m. carries-weaker m.message) h.sent;
+        sent = all_weaker (λ (m : Sent E). CarriesFrom f m.message) (λ (m : Sent E). CarriesFrom g m.message) w.sent (λ m. carries-weaker m.message) h.sent;
       }
 
 pub take_next : {X : Type 0} (xs : List X) (i : ℕ) (x : X) → slice_get xs i ≡ Some x → take (suc i) xs ≡ take i xs ++ x ∷ []

@@ -14,6 +14,4 @@ pub use world::{RaftPushRefused, RaftWorld};
 
 pub mod event;
 pub mod laws;
-#[cfg(test)]
-mod tests;
 pub mod world;

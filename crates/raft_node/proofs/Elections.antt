@@ -1,5 +1,5 @@
 -- Elections that do not end at once, and those that do.
-use Rattle.std.proofs.Common.{◌≡◌, ℕ, true, false, List, ◌++◌, length, arith, subst, sym, ◌||◌}
+use Rattle.std.proofs.Common.{◌≡◌, ℕ, false, List, length, arith, subst, sym, ◌||◌}
 use Rattle.std.proofs.lemmas.Bool.Decides.{nat_tests}
 use Rattle.region_map.specs.declared.id.NodeId.{NodeId}
 use Rattle.raft_vote.specs.declared.message.RaftMessage.{RaftMessage}
@@ -7,14 +7,11 @@ use Rattle.raft_vote.specs.Log.{last_term}
 use Rattle.raft_vote.specs.State.{VoteState}
 use Rattle.raft_vote.specs.Rows.{Asking, is_leader, vote_tick, ends_terms, asks}
 use Rattle.raft_node.specs.State.{RaftState}
-use Rattle.raft_node.specs.Rows.{elected, won, append_all, elect_row, elect_ends, ends_at_win}
+use Rattle.raft_node.specs.Rows.{elected, elect_row, elect_ends, ends_at_win}
 
 module _ {E : Type 0} (noop : E) (s : RaftState E) where
   elected_lost : (votes : VoteState) (sent : List (NodeId × RaftMessage E)) → is_leader votes.role ≡ false → elected noop s votes sent ≡ record { node = record s { votes = votes }; sent = sent }
   elected_lost votes sent e = grind (arith, nat_tests)
-
-  elected_won : (votes : VoteState) (sent : List (NodeId × RaftMessage E)) → is_leader s.votes.role ≡ false → is_leader votes.role ≡ true → elected noop s votes sent ≡ record { node = won noop (record s { votes = votes }); sent = sent ++ append_all (won noop (record s { votes = votes })) }
-  elected_won votes sent e f = grind (arith, nat_tests)
 
   pub elect_row_lost : (unseen : List ℕ) (r : Asking) → r ≡ vote_tick s.votes unseen → is_leader r.node.role ≡ false → record { node = record s { votes = r.node }; sent = asks r.node.term (last_term s.log) (length s.log) r.asked } ≡ elect_row noop s unseen
   elect_row_lost unseen r e lost =

@@ -11,5 +11,3 @@ pub use node::{LOG_LIMIT, ProposeRefused, RaftNode};
 pub mod input;
 pub mod kept;
 pub mod node;
-#[cfg(test)]
-mod tests;

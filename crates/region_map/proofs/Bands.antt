@@ -4,6 +4,7 @@ use Rattle.std.specs.List.{AllByRecursion}
 use Rattle.std.proofs.lemmas.Bool.{and_parts, and_from, and_left, and_right, eqb-true, eqb-false, ltb-true, leb-true, lt-ltb, le-ltb, le-leb, lt-leb, cases_eq, not-true, cond_both}
 use Rattle.std.proofs.lemmas.List.{append-nil}
 use Rattle.std.proofs.lemmas.Bool.Decides.{nat_tests}
+use Rattle.list_laws.proofs.All.{all_pop, all_push, all_weaker}
 use Rattle.region_map.specs.declared.region.Region.{Region}
 use Rattle.region_map.specs.declared.row.Range.{Range}
 use Rattle.region_map.specs.declared.stretch.Stretch.{Stretch}
@@ -14,7 +15,6 @@ use Rattle.region_map.specs.Rows.{IsZipped}
 use Rattle.region_map.specs.Bands.{row_at, Adds}
 use Rattle.region_map.proofs.Zips.{never_in}
 use Rattle.region_map.proofs.Order.{before_nil, before_trans, before_then}
-use Rattle.region_map.proofs.Rows.{all_front, all_snoc, all_weaker}
 
 pub in_band : (from to q : ℕ) → from ≤ q → q < to → (nat_le from q && nat_lt q to) ≡ true
 in_band from to q h i = and_from _ _ (le-leb from q h) (lt-ltb q to i)
@@ -49,12 +49,12 @@ module _ {V : Type 0} where
   bands_front n [] b h = (tt, h.0, tt)
   bands_front n (x ∷ bs) b h =
       let r = bands_front n bs b h.2 in
-      let a = all_front (Succeeds x) bs b h.1 in
+      let a = all_pop (Succeeds x) bs b h.1 in
       ((h.0, a.0, r.0), r.1, (a.1, r.2))
 
   bands_snoc : (n : ℕ) (bs : List (Band V)) (b : Band V) → AreBands n bs → IsBand n b → AllByRecursion (λ x. Succeeds x b) bs → AreBands n (bs ++ b ∷ [])
   bands_snoc n [] b h r f = (r, tt, tt)
-  bands_snoc n (x ∷ bs) b h r f = (h.0, all_snoc (Succeeds x) bs b h.1 f.0, bands_snoc n bs b h.2 r f.1)
+  bands_snoc n (x ∷ bs) b h r f = (h.0, all_push (Succeeds x) bs b h.1 f.0, bands_snoc n bs b h.2 r f.1)
 
   bands_wider : (n m : ℕ) (bs : List (Band V)) → n ≤ m → AreBands n bs → AreBands m bs
   bands_wider n m [] h a = tt
@@ -125,7 +125,7 @@ module _ {V : Type 0} where
       let holds = is.holds in
       let within = is.within in
       adds_new (init ++ last ∷ []) h row new a r f e1 e2 e3
-      (all_snoc (λ x. Succeeds x new) init last
+      (all_push (λ x. Succeeds x new) init last
       (all_weaker (λ x. Succeeds x last) (λ x. Succeeds x new) init (λ x s. let w = s.apart in record { apart = omega arith; longest = λ u v. absurd (omega arith) }) p.2)
       (record { apart = omega arith; longest = λ u v. ne (u ∙ e1) (v ∙ e3) }))
 

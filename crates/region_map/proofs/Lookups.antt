@@ -3,6 +3,7 @@ use Rattle.std.proofs.Common.{◌≡◌, ℕ, zero, suc, ◌<◌, ◌≤◌, Boo
 use Rattle.std.specs.List.{AllByRecursion}
 use Rattle.std.specs.List.Sorted.{IsPartitionedBy}
 use Rattle.std.proofs.lemmas.Bool.{false≢true, not-true, not_from_false, or_cases, or_parts, or_left, or_right, and_parts, and_right, and_from, leb-true, le-leb}
+use Rattle.list_laws.proofs.All.{all_append, all_get_or}
 use Rattle.region_map.specs.declared.region.Region.{Region}
 use Rattle.region_map.specs.declared.row.Range.{Range}
 use Rattle.region_map.specs.Regions.{before, low, below, in_range, in_region}
@@ -24,15 +25,6 @@ tests : (a b c d : Bool) → (a && not c) ≡ false → ((a && b) && (not c && d
 tests true b true d e = and_right b false refl
 tests true b false d e = absurd (false≢true (sym e))
 tests false b c d e = refl
-
-all_at : {A : Type 0} (P : A → Type 0) (xs : List A) (i : ℕ) (d : A) → AllByRecursion P xs → i < length xs → P (get_or xs i d)
-all_at P [] i d h lt = absurd (omega arith)
-all_at P (x ∷ xs) zero d h lt = h.0
-all_at P (x ∷ xs) (suc i) d h lt = all_at P xs i d h.1 (omega arith)
-
-all_append : {A : Type 0} (P : A → Type 0) (xs ys : List A) → AllByRecursion P xs → AllByRecursion P ys → AllByRecursion P (xs ++ ys)
-all_append P [] ys h k = k
-all_append P (x ∷ xs) ys h k = (h.0, all_append P xs ys h.1 k)
 
 -- what lies behind the hashes of a region
 past_hashes : (r : Region) (h : ℕ) (k : List ℕ) → r.hash_to ≤ h → (begins_by r h k ≡ true) × (in_region r h k ≡ false)
@@ -126,7 +118,7 @@ module _ {V : Type 0} where
   pub passes_in_front : (ps : List (Region × V)) (h : ℕ) (k : List ℕ) → AreInOrder ps → IsPartitionedBy (λ p. begins_by p.0 h k) ps
   passes_in_front [] h k o i j d le lt e = absurd (omega arith)
   passes_in_front (p ∷ ps) h k o zero zero d le lt e = e
-  passes_in_front (p ∷ ps) h k o zero (suc j) d le lt e = ((all_at (Precedes p) ps j d o.0 (omega arith)).at h k e).0
+  passes_in_front (p ∷ ps) h k o zero (suc j) d le lt e = ((all_get_or (Precedes p) ps j d o.0 (omega arith)).at h k e).0
   passes_in_front (p ∷ ps) h k o (suc i) zero d le lt e = absurd (omega arith)
   passes_in_front (p ∷ ps) h k o (suc i) (suc j) d le lt e = passes_in_front ps h k o.1 i j d (omega arith) (omega arith) e
 
@@ -143,5 +135,5 @@ module _ {V : Type 0} where
   last_begun (p ∷ ps) h k zero d o lt b f =
       ap (λ v. cond (in_region p.0 h k) (Some p.1) v) (none_begun ps h k (λ j x w. f (suc j) x (omega arith) (omega arith)))
   last_begun (p ∷ ps) h k (suc i) d o lt b f =
-      let gone : in_region p.0 h k ≡ false = ((all_at (Precedes p) ps i d o.0 (omega arith)).at h k b).1 in
+      let gone : in_region p.0 h k ≡ false = ((all_get_or (Precedes p) ps i d o.0 (omega arith)).at h k b).1 in
       ap (λ c. cond c (Some p.1) (value_at ps h k)) gone ∙ last_begun ps h k i d o.1 (omega arith) b (λ j x w v. f (suc j) x (omega arith) (omega arith))

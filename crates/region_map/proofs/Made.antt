@@ -3,6 +3,7 @@ use Rattle.std.proofs.Common.{◌≡◌, ◌↔◌, ℕ, zero, suc, ◌+◌, ◌
 use Rattle.std.specs.List.{AllByRecursion}
 use Rattle.std.specs.Option.{is_some}
 use Rattle.std.proofs.lemmas.Bool.{and_parts, and_from, and_right, not_from_false, both_ways, cases_Bool, cases_lt, lt-ltb}
+use Rattle.list_laws.proofs.All.{all_weaker}
 use Rattle.region_map.specs.declared.region.Region.{Region}
 use Rattle.region_map.specs.declared.row.Range.{Range}
 use Rattle.region_map.specs.Equal.{Decides, same_option, option_decides}
@@ -11,7 +12,7 @@ use Rattle.region_map.specs.Maps.{Pieced, Band, Succeeds, AreBands, IsRow, Follo
 use Rattle.region_map.specs.Bands.{row_at}
 use Rattle.region_map.specs.Made.{with_cut, in_order, ends_of, cuts_of, Together, ChangesAt, range_if, ranges_made, agree, band_if, bands_made, made, joined, constant_map, set_map, mask_map}
 use Rattle.region_map.proofs.Order.{before_nil, before_self, before_trans, before_back, before_then, then_before, before_neither, not_before}
-use Rattle.region_map.proofs.Rows.{all_weaker, in_range_from}
+use Rattle.region_map.proofs.Rows.{in_range_from}
 use Rattle.region_map.proofs.Bands.{in_band, past_band, before_band, value_at-pieces_of, none_beyond}
 use Rattle.region_map.proofs.Same.{same_maps}
 
@@ -304,7 +305,8 @@ module _ {V : Type 0} (same : V → V → Bool) (d : Decides same) (hashes : ℕ
 
 -- ---- where the values of maps change
 
-below_together : (to : Option (List ℕ)) (k q : List ℕ) → before k (low to) ≡ before q (low to) → below k to ≡ below q to
+-- whether a key is below a bound changes only at the bound
+pub below_together : (to : Option (List ℕ)) (k q : List ℕ) → before k (low to) ≡ before q (low to) → below k to ≡ below q to
 below_together None k q e = refl
 below_together (Some t) k q e = e
 

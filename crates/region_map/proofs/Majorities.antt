@@ -1,6 +1,6 @@
 -- Two majorities of one set share a member.
 use Rattle.std.proofs.Common.{◌≡◌, ◌==◌, ℕ, ◌+◌, ◌*◌, ◌<◌, ◌≤◌, Bool, true, false, cond, ◌&&◌, ◌||◌, List, [], ◌∷◌, length, filter, count_by, refl, ap, ◌∙◌, arith}
-use Rattle.std.proofs.lemmas.Bool.{eq-eqb, ltb-true, and_parts}
+use Rattle.std.proofs.lemmas.Bool.{eq-eqb, ltb-true, and_parts, or_right}
 use Rattle.std.proofs.lemmas.List.Sums.{length-filter}
 use Rattle.region_map.specs.Nodes.{has, is_majority}
 
@@ -14,17 +14,13 @@ overlap p q (x ∷ xs) =
       | false ↦ elim (q x) as (λ d. length (filter p xs) + length (cond d (x ∷ filter q xs) (filter q xs)) ≤ length (x ∷ xs) + length (filter (λ y. p y && q y) xs)) [ true ↦ omega (arith, rest) | false ↦ omega (arith, rest) ]
     ]
 
-or-true : (b : Bool) → (b || true) ≡ true
-or-true true = refl
-or-true false = refl
-
 -- where some pass, one does
 some_passes : (p : ℕ → Bool) (xs : List ℕ) → 0 < length (filter p xs) → (n : ℕ) × (has xs n ≡ true) × (p n ≡ true)
 some_passes p [] h = absurd (omega arith)
 some_passes p (x ∷ xs) h =
     elim (p x) as (λ c. p x ≡ c → 0 < length (cond c (x ∷ filter p xs) (filter p xs)) → (n : ℕ) × (((x == n) || has xs n) ≡ true) × (p n ≡ true)) [
       | true ↦ λ yes l. (x, ap (λ b. b || has xs x) (eq-eqb x x refl), yes)
-      | false ↦ λ no l. let r = some_passes p xs l in (r.0, ap (λ b. (x == r.0) || b) r.1 ∙ or-true (x == r.0), r.2)
+      | false ↦ λ no l. let r = some_passes p xs l in (r.0, ap (λ b. (x == r.0) || b) r.1 ∙ or_right (x == r.0) true refl, r.2)
     ] refl h
 
 pub majorities_meet : (a b of : List ℕ) → is_majority a of ≡ true → is_majority b of ≡ true → (n : ℕ) × (has of n ≡ true) × (has a n ≡ true) × (has b n ≡ true)

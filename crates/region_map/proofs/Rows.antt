@@ -2,6 +2,7 @@
 use Rattle.std.proofs.Common.{◌≡◌, ◌≢◌, ℕ, Bool, true, false, cond, ◌&&◌, not, List, [], ◌∷◌, ◌++◌, Option, Some, None, refl, sym, ap, ◌∙◌, subst}
 use Rattle.std.specs.List.{AllByRecursion}
 use Rattle.std.proofs.lemmas.Bool.{and_parts, and_from, and_right, not-true, not_from_false, both_ways}
+use Rattle.list_laws.proofs.All.{all_pop, all_push, all_weaker}
 use Rattle.region_map.specs.declared.row.Range.{Range}
 use Rattle.region_map.specs.Regions.{before, low, below, in_range, is_open, ends_by}
 use Rattle.region_map.specs.Maps.{row_value, IsRow, IsRange, Follows}
@@ -16,10 +17,6 @@ in_range_parts from to k h = let p = and_parts _ _ h in (not-true _ p.0, p.1)
 
 pub in_range_from : (from to : Option (List ℕ)) (k : List ℕ) → before k (low from) ≡ false → below k to ≡ true → in_range from to k ≡ true
 in_range_from from to k h i = and_from _ _ (not_from_false _ h) i
-
-pub below_then : (a b : List ℕ) (to : Option (List ℕ)) → before b a ≡ false → below b to ≡ true → below a to ≡ true
-below_then a b None h i = refl
-below_then a b (Some t) h i = then_before a b t h i
 
 -- a range that ends by a bound has nothing at or above it
 pub past_end : (to from : Option (List ℕ)) (k : List ℕ) → ends_by to from ≡ true → before k (low from) ≡ false → below k to ≡ false
@@ -63,29 +60,17 @@ longer_in from (Some t) (Some n) end k e h i j =
 
 -- ---- lists
 
-pub all_front : {A : Type 0} (P : A → Type 0) (xs : List A) (y : A) → AllByRecursion P (xs ++ y ∷ []) → AllByRecursion P xs × P y
-all_front P [] y h = (tt, h.0)
-all_front P (x ∷ xs) y h = let r = all_front P xs y h.1 in ((h.0, r.0), r.1)
-
-pub all_snoc : {A : Type 0} (P : A → Type 0) (xs : List A) (y : A) → AllByRecursion P xs → P y → AllByRecursion P (xs ++ y ∷ [])
-all_snoc P [] y h p = (p, tt)
-all_snoc P (x ∷ xs) y h p = (h.0, all_snoc P xs y h.1 p)
-
-pub all_weaker : {A : Type 0} (P Q : A → Type 0) (xs : List A) → ((x : A) → P x → Q x) → AllByRecursion P xs → AllByRecursion Q xs
-all_weaker P Q [] f h = tt
-all_weaker P Q (x ∷ xs) f h = (f x h.0, all_weaker P Q xs f h.1)
-
 module _ {V : Type 0} where
   pub row_front : (xs : List (Range V)) (g : Range V) → IsRow (xs ++ g ∷ []) → IsRow xs × IsRange g × AllByRecursion (λ x. Follows x g) xs
   row_front [] g h = (tt, h.0, tt)
   row_front (x ∷ xs) g h =
       let r = row_front xs g h.2 in
-      let a = all_front (Follows x) xs g h.1 in
+      let a = all_pop (Follows x) xs g h.1 in
       ((h.0, a.0, r.0), r.1, (a.1, r.2))
 
   pub row_snoc : (xs : List (Range V)) (g : Range V) → IsRow xs → IsRange g → AllByRecursion (λ x. Follows x g) xs → IsRow (xs ++ g ∷ [])
   row_snoc [] g h r f = (r, tt, tt)
-  row_snoc (x ∷ xs) g h r f = (h.0, all_snoc (Follows x) xs g h.1 f.0, row_snoc xs g h.2 r f.1)
+  row_snoc (x ∷ xs) g h r f = (h.0, all_push (Follows x) xs g h.1 f.0, row_snoc xs g h.2 r f.1)
 
   -- ---- values
 
@@ -138,13 +123,13 @@ module _ {V : Type 0} where
       → (last.to ≡ g.from → last.value ≢ g.value) → Puts (old ++ last ∷ []) g ((old ++ last ∷ []) ++ g ∷ [])
   puts_apart old last g r is h ne =
       let p = row_front old last r in
-      let q = all_front (λ (x : Range V). ends_by x.to g.from ≡ true) old last h in
+      let q = all_pop (λ (x : Range V). ends_by x.to g.from ≡ true) old last h in
       let far = λ (x : Range V) (f : Follows x last). follows_far x last g f p.1 q.1 in
       record {
         row = row_snoc (old ++ last ∷ []) g r is
-            (all_snoc (λ x. Follows x g) old last (all_weaker (λ x. Follows x last) (λ x. Follows x g) old far p.2) (record { apart = q.1; longest = ne }));
+            (all_push (λ x. Follows x g) old last (all_weaker (λ x. Follows x last) (λ x. Follows x g) old far p.2) (record { apart = q.1; longest = ne }));
         at = λ k. put_at (old ++ last ∷ []) g k h;
-        ends = λ bound e. all_snoc (λ x. ends_by x.to bound ≡ true) (old ++ last ∷ []) g (precede_then (old ++ last ∷ []) g.from g.to bound h is.holds e) e;
+        ends = λ bound e. all_push (λ x. ends_by x.to bound ≡ true) (old ++ last ∷ []) g (precede_then (old ++ last ∷ []) g.from g.to bound h is.holds e) e;
       }
     where
       follows_far : (x last g : Range V) → Follows x last → IsRange last → ends_by last.to g.from ≡ true → Follows x g
@@ -164,14 +149,14 @@ module _ {V : Type 0} where
       → last.to ≡ g.from → last.value ≡ g.value → Puts (old ++ last ∷ []) g (old ++ record last { to = g.to } ∷ [])
   puts_longer old last g r is h touch same =
       let p = row_front old last r in
-      let q = all_front (λ (x : Range V). ends_by x.to g.from ≡ true) old last h in
+      let q = all_pop (λ (x : Range V). ends_by x.to g.from ≡ true) old last h in
       let longer : Range V = record last { to = g.to } in
       let opened : is_open last.from g.to ≡ true = open_then last.from last.to g.from g.to p.1.holds touch q.1 is.holds in
       record {
         row = row_snoc old longer p.0 (record { holds = opened; begins = p.1.begins; ends = is.ends })
             (all_weaker (λ x. Follows x last) (λ x. Follows x longer) old (λ x f. record { apart = f.apart; longest = f.longest }) p.2);
         at = λ k. longer_at k p.1.holds q.0 q.1;
-        ends = λ bound e. all_snoc (λ x. ends_by x.to bound ≡ true) old longer (precede_then old g.from g.to bound q.0 is.holds e) e;
+        ends = λ bound e. all_push (λ x. ends_by x.to bound ≡ true) old longer (precede_then old g.from g.to bound q.0 is.holds e) e;
       }
     where
       longer_at : (k : List ℕ) → is_open last.from last.to ≡ true → Precede old g.from → ends_by last.to g.from ≡ true

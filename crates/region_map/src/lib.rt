@@ -35,6 +35,3 @@ pub const MAX_KEY_BYTES: usize = 64;
 
 /// The first number that no life, term, timestamp, id counter, log index or part number reaches.
 pub const NUMBERS_END: u64 = 1 << 62;
-
-#[cfg(test)]
-mod tests;

@@ -17,6 +17,3 @@ pub mod value;
 
 /// The most bytes that a value has.
 pub const MAX_VALUE_BYTES: usize = 1024;
-
-#[cfg(test)]
-mod tests;

@@ -4,10 +4,11 @@ use Rattle.std.proofs.lemmas.List.{at_drop_more}
 use Rattle.register_laws.specs.declared.operation.OpId.{OpId}
 use Rattle.exec_types.specs.declared.outcome.Outcome.{Outcome}
 use Rattle.exec_types.specs.declared.output.Output.{Output}
-use Rattle.run_laws.specs.Story.{answer_in, or_else}
-use Rattle.run_laws.proofs.Outs.{answer_in-append}
+use Rattle.journal_story.specs.runs.Story.{answer_in, or_else}
+use Rattle.journal_story.proofs.step_runs.Outs.{answer_in-append}
 use Rattle.report_text.specs.declared.answered.Answered.{Answered}
-use Rattle.report_text.specs.Known.{all_answered, or_answered, op_of}
+use Rattle.journal_story.specs.Done.{op_of}
+use Rattle.report_text.specs.Known.{all_answered, or_answered}
 use Rattle.report_text.specs.Report.{is_down}
 
 pub all_answered-or_else : (a b : Option Outcome) → all_answered (or_else a b) ≡ or_answered (all_answered a) (all_answered b)

@@ -1,8 +1,8 @@
 -- Laws of the lines of skipped changes.
 use Rattle.std.proofs.Common.{◌≡◌, ℕ, ◌+◌, List, [], ◌∷◌, ◌++◌, refl, ap, sym, ◌∙◌, append_assoc}
 use Rattle.contract_types.specs.declared.change.Change.{Change}
-use Rattle.table_apply.specs.declared.applied.Applied.{Applied}
-use Rattle.table_apply.specs.declared.applied.Applied.TheVariants.{Taken, Skipped}
+use Rattle.contract_types.specs.declared.applied.Applied.{Applied}
+use Rattle.contract_types.specs.declared.applied.Applied.TheVariants.{Taken, Skipped}
 use Rattle.report_text.specs.Report.{with_skipped, skipped_lines}
 
 with_skipped-nil : (index : ℕ) (applied : Applied) (rest : List (List ℕ)) → with_skipped index applied rest ≡ with_skipped index applied [] ++ rest

@@ -8,17 +8,17 @@ use Rattle.std.specs.FinMap.{slice_cmp-IsAntisymmetric, nat_cmp-IsAntisymmetric}
 use Rattle.std.specs.BTreeMap.{get, is_at}
 use Rattle.contract_types.specs.Setup.{SetupState}
 use Rattle.contract_types.specs.Tables.{Table}
-use Rattle.run_laws.specs.Latest.{told_table}
+use Rattle.journal_story.specs.runs.Latest.{told_table}
 use Rattle.register_laws.specs.declared.operation.Op.{Op}
 use Rattle.register_laws.specs.Register.{State, state_after}
 use Rattle.register_laws.specs.Lists.{told_from}
 use Rattle.exec_types.specs.declared.output.Output.{Output}
 use Rattle.exec_types.specs.declared.output.Output.TheVariants.{Message, Dispatched, Viewed, Answer}
 use Rattle.node_core.specs.declared.journal.Entry.{Entry}
-use Rattle.run_laws.specs.Story.{Point, points, points_in, points_of, same_key, is_on_path, is_shown_point, call_of, story}
+use Rattle.journal_story.specs.runs.Story.{Point, points, points_in, points_of, same_key, is_on_path, is_shown_point, call_of, story}
 use Rattle.report_text.specs.Report.{told_text, story_line}
 use Rattle.report_text.specs.Stories.{Texts, text_at, told_op, point_text, points_text, text_or_none, line_with, line_by}
-use Rattle.world_core.proofs.Branches.{on_path-hashes}
+use Rattle.journal_story.proofs.Branches.{on_path-hashes}
 
 pub points_text-append : (t : Table) (past : List Entry) (key : List ℕ) (ps qs : List Point) → points_text t past key (ps ++ qs) ≡ points_text t past key ps ++ points_text t past key qs
 points_text-append t past key [] qs = refl

@@ -6,8 +6,9 @@ use Rattle.std.specs.BTreeSet.{BTreeSet, contains}
 use Rattle.register_laws.specs.declared.operation.OpId.{OpId}
 use Rattle.exec_types.specs.declared.outcome.Outcome.{Outcome}
 use Rattle.node_core.specs.declared.journal.Entry.{Entry}
-use Rattle.run_laws.specs.Run.{is_requested}
-use Rattle.run_laws.specs.Story.{answer, is_done_outcome}
+use Rattle.journal_story.specs.Done.{op_of}
+use Rattle.journal_story.specs.runs.Run.{is_requested}
+use Rattle.journal_story.specs.runs.Story.{answer, is_done_outcome}
 use Rattle.report_text.specs.declared.answered.Answered.{Answered}
 use Rattle.report_text.specs.Report.{outcome_text, is_down}
 
@@ -28,10 +29,6 @@ all_answered (Some outcome) = Some (answered outcome)
 abbrev pub or_answered : Option Answered → Option Answered → Option Answered
 or_answered None later = later
 or_answered (Some first) later = Some first
-
--- the operation of this number
-abbrev pub op_of : ℕ → OpId
-op_of n = record { 0 = n }
 
 -- a map has the answer to each operation of a journal
 abbrev pub KeepsAnswers : BTreeMap ℕ Answered → List Entry → Type 0

@@ -15,19 +15,19 @@ use Rattle.register_laws.specs.declared.operation.Reply.TheVariants.{Was, Swappe
 use Rattle.register_laws.specs.declared.operation.Told.{Told}
 use Rattle.contract_types.specs.Setup.{SetupState}
 use Rattle.contract_types.specs.declared.change.Change.{Change}
-use Rattle.table_apply.specs.declared.applied.Applied.{Applied}
-use Rattle.table_apply.specs.declared.applied.Applied.TheVariants.{Taken, Skipped}
-use Rattle.table_apply.specs.declared.applied.Condition.{Condition}
-use Rattle.table_apply.specs.declared.applied.Condition.TheVariants.{Removed, Regions, Primary, IdNew, Tenure, BasedOn}
 use Rattle.contract_types.specs.declared.counts.Counts.{Counts}
 use Rattle.contract_types.specs.declared.limits.Which.{Which}
 use Rattle.contract_types.specs.declared.limits.Which.TheVariants.{ScriptBytes, LineBytes, JournalEntries, JournalWeight, Numbers}
+use Rattle.contract_types.specs.declared.applied.Applied.{Applied}
+use Rattle.contract_types.specs.declared.applied.Applied.TheVariants.{Taken, Skipped}
+use Rattle.contract_types.specs.declared.applied.Condition.{Condition}
+use Rattle.contract_types.specs.declared.applied.Condition.TheVariants.{Removed, Regions, Primary, IdNew, Tenure, BasedOn}
 use Rattle.exec_types.specs.declared.outcome.Outcome.{Outcome}
 use Rattle.exec_types.specs.declared.outcome.Outcome.TheVariants.{Done, NotServing, NoMajority}
 use Rattle.node_core.specs.declared.journal.Entry.{Entry}
-use Rattle.run_laws.specs.Run.{is_requested}
-use Rattle.run_laws.specs.Latest.{longest}
-use Rattle.run_laws.specs.Story.{answer, story}
+use Rattle.journal_story.specs.runs.Run.{is_requested}
+use Rattle.journal_story.specs.runs.Latest.{longest}
+use Rattle.journal_story.specs.runs.Story.{answer, story}
 use Rattle.script_text.specs.declared.script.ScriptWord.{ScriptWord}
 use Rattle.script_text.specs.declared.script.ScriptWord.TheVariants.{Request, GiveUp, See, Crash, Restart, Tick, Deliver, Lose, LoseBetween, Flush, Settle}
 use Rattle.script_text.specs.declared.script.ScriptItem.{ScriptItem}

@@ -6,7 +6,7 @@ use Rattle.std.specs.Cmp.Lexicographic.{slice_cmp}
 use Rattle.std.specs.BTreeMap.{BTreeMap, get}
 use Rattle.contract_types.specs.Tables.{Table}
 use Rattle.node_core.specs.declared.journal.Entry.{Entry}
-use Rattle.run_laws.specs.Story.{Point, is_on_path, is_shown_point}
+use Rattle.journal_story.specs.runs.Story.{Point, is_on_path, is_shown_point}
 use Rattle.report_text.specs.Report.{ended, bytes_text}
 
 -- texts by key

@@ -4,9 +4,10 @@ ghost use Rattle.std.specs.Ordering.{nat_cmp};
 ghost use Rattle.std.specs.BTreeMap.{get};
 ghost use Rattle.std.specs.BTreeSet.{contains};
 ghost use Rattle.std.specs.String.{string_bytes};
-ghost use Rattle.run_laws.specs.Run.{requests, is_requested};
-ghost use Rattle.run_laws.specs.Story.{answer, answer_in, is_done};
-ghost use Rattle.report_text.specs.Known.{answered, all_answered, or_answered, op_of, KeepsAnswers, KeepsRequests, KeepsDown};
+ghost use Rattle.journal_story.specs.runs.Run.{requests, is_requested};
+ghost use Rattle.journal_story.specs.runs.Story.{answer, answer_in, is_done};
+ghost use Rattle.journal_story.specs.Done.{op_of};
+ghost use Rattle.report_text.specs.Known.{answered, all_answered, or_answered, KeepsAnswers, KeepsRequests, KeepsDown};
 ghost use Rattle.report_text.specs.Report.{fate_text, unasked_text, is_down, op_line};
 
 use crate::Printed;

@@ -2,7 +2,7 @@
 ghost use Rattle.std.specs.Prelude.{◌≡◌, ◌++◌, [], ◌<◌, ◌≤◌, ℕ, length, take, map, IfOk, OnOk, OnErr, IsErrOf, IsTrue};
 ghost use Rattle.line_io.specs.Bytes.{Appends};
 ghost use Rattle.line_io.specs.Counts.{rose};
-ghost use Rattle.run_laws.specs.Latest.{told_table};
+ghost use Rattle.journal_story.specs.runs.Latest.{told_table};
 ghost use Rattle.report_text.specs.Report.{with_op_line, op_lines, refusal_line, with_skipped, skipped_lines, story_line, keys_from, report, joined};
 ghost use Rattle.report_text.specs.Stories.{line_by};
 ghost use Rattle.report_text.specs.declared.print_refused.PrintRefused.TheVariants.{WriteFault, OutOfMemory};
@@ -11,7 +11,8 @@ use crate::known::Known;
 use crate::stories::{keys_of, story_line, texts_of};
 use crate::texts::{ending_line, header_line, refusal_line, skipped_line};
 use crate::{Ending, PrintRefused, Printed, Refusal};
-use contract_types::{Change, Setup, TableState};
+use contract_types::{Applied, Change, Setup, TableState};
+use journal_story::{longest, told_table};
 use line_io::{Sink, WriteFault, write_all};
 use memory::OutOfMemory;
 use node_core::Journal;
@@ -20,8 +21,6 @@ use register_laws::OpId;
 use script_text::{ScriptItem, ScriptWord};
 use std::alloc::Global;
 use std::collections::{BTreeMap, BTreeSet};
-use table_apply::Applied;
-use world_core::{longest, told_table};
 
 fn add_op_line(
     alloc: Global,

@@ -4,7 +4,7 @@ ghost use Rattle.std.specs.Ordering.{nat_cmp};
 ghost use Rattle.std.specs.Cmp.Lexicographic.{slice_cmp};
 ghost use Rattle.std.specs.BTreeMap.{get, is_at};
 ghost use Rattle.register_laws.specs.Lists.{is_read};
-ghost use Rattle.run_laws.specs.Story.{same_key, is_shown, points, points_in, points_of};
+ghost use Rattle.journal_story.specs.runs.Story.{same_key, is_shown, points, points_in, points_of};
 ghost use Rattle.report_text.specs.Report.{keys_from, with_key};
 ghost use Rattle.report_text.specs.Stories.{text_at, told_op, points_text, line_by};
 
@@ -14,6 +14,7 @@ use crate::texts::bytes_text;
 use branch_history::Version;
 use contract_types::TableState;
 use exec_types::{Input, Output};
+use journal_story::is_on_current;
 use memory::OutOfMemory;
 use node_core::Entry;
 use region_map::Key;
@@ -21,7 +22,6 @@ use register_laws::{Op, OpId};
 use script_text::{ScriptItem, ScriptWord};
 use std::alloc::Global;
 use std::collections::{BTreeMap, BTreeSet};
-use world_core::is_on_current;
 
 fn is_read(what: &Op) -> bool
     ensures { result ≡ is_read what.now }

@@ -2,7 +2,10 @@ ghost use Rattle.std.specs.Prelude.{◌<◌};
 
 use super::*;
 use branch_history::Version;
-use contract_types::{Change, Contracts, Counts, Ids, Setup, ShardConfig, TableConfig, Which};
+use contract_types::{
+    Applied, Change, Condition, Contracts, Counts, Ids, Results, Setup, ShardConfig, TableConfig,
+    Which,
+};
 use exec_types::{Input, Outcome, Output, Outputs};
 use line_io::MemorySink;
 use node_core::{Entry, Journal};
@@ -11,8 +14,6 @@ use register_laws::{Op, OpId, Reply, Value};
 use script_text::{Reason, ScriptItem, ScriptWord};
 use std::alloc::Global;
 use std::test::Fail;
-use table_apply::{Applied, Condition};
-use table_log::Results;
 
 const FIRST: Id = Id {
     node: NodeId(0),

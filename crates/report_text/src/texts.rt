@@ -7,7 +7,7 @@ ghost use Rattle.serde_json.specs.Written.{compact_text};
 ghost use Rattle.report_text.specs.Report.{bytes_text, value_text, reply_text, id_text, pair_text, temp_text, counts_text, outcome_text, event_refused_text, refusal_line, condition_text, skipped_line, which_text, limit_line, header_line, table_text, ending_line, usage_line, read_fault_line, script_line};
 
 use crate::{Ending, EventRefused, Printed, Refusal};
-use contract_types::{Counts, Setup, Which};
+use contract_types::{Condition, Counts, Setup, Which};
 use exec_types::Outcome;
 use memory::OutOfMemory;
 use region_map::Id;
@@ -15,7 +15,6 @@ use register_laws::{Reply, Value};
 use script_text::Reason;
 use std::alloc::Global;
 use std::str;
-use table_apply::Condition;
 
 fn json_text(alloc: Global, text: &str) -> Result<String, OutOfMemory>
     ensures { IfOk result (λ s. string_bytes s ≡ compact_text (string text.now)) }

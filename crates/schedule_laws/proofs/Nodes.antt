@@ -10,6 +10,3 @@ set_at_both P f n x new old k =
 
 pub set_at-same : {A : Type 0} (f : ℕ → A) (n : ℕ) (x : A) → set_at f n x n ≡ x
 set_at-same f n x = rw (eq-eqb n n refl)
-
-pub set_at-other : {A : Type 0} (f : ℕ → A) (n : ℕ) (x : A) (k : ℕ) → (k == n) ≡ false → set_at f n x k ≡ f k
-set_at-other f n x k e = rw e

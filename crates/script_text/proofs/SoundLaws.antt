@@ -3,6 +3,7 @@ use Rattle.std.proofs.Common.{⊎_elim, ◌≡◌, ◌⊎◌, inl, inr, append-n
 use Rattle.std.specs.Prelude.{Option, is_some, option_and_then, option_map, if◌then◌else◌, bytes_eq, codes, nat_lt}
 use Rattle.std.specs.List.{list_all}
 use Rattle.std.proofs.lemmas.Bool.Decides.{nat_tests}
+use Rattle.std.proofs.lemmas.Bool.{and_parts}
 use Rattle.serde_json.specs.Data.{Data}
 use Rattle.serde_json.specs.Find.{get}
 use Rattle.contract_types.specs.Setup.{SetupState, IsSetup, is_setup, whole}
@@ -247,10 +248,6 @@ record IsSoundSoFar (r : Reading) : Type 0 where
   sound : IsSound (said r)
   empty : r.begun ≡ false → r.items ≡ []
 
-both : (a b : Bool) → (a && b) ≡ true → (a ≡ true) × (b ≡ true)
-both true b is = (refl, is)
-both false b is = cc
-
 and_then_is : {A B : Type 0} (f : A → Option B) (o : Option A) (b : B) → option_and_then f o ≡ Some b → (a : A) × (o ≡ Some a) × (f a ≡ Some b)
 and_then_is f None b is = cc
 and_then_is f (Some a) b is = (a, refl, is)
@@ -268,14 +265,14 @@ are_new-push before [] item new fresh =
     let h = rw append-nil at fresh in
     rw h refl
 are_new-push before (x ∷ xs) item new fresh =
-    let h = both (not (is_again x.word before)) (are_new (before ++ x ∷ []) xs) new in
+    let h = and_parts (not (is_again x.word before)) (are_new (before ++ x ∷ []) xs) new in
     let later : not (is_again item.word ((before ++ x ∷ []) ++ xs)) ≡ true = rw append_assoc fresh in
     rw h.0 (are_new-push (before ++ x ∷ []) xs item h.1 later)
 
 all-push : (p : ScriptItem → Bool) (items : List ScriptItem) (item : ScriptItem) → list_all p items ≡ true → p item ≡ true → list_all p (items ++ item ∷ []) ≡ true
 all-push p [] item all one = rw one refl
 all-push p (x ∷ xs) item all one =
-    let h = both (p x) (list_all p xs) all in
+    let h = and_parts (p x) (list_all p xs) all in
     rw h.0 (all-push p xs item h.1 one)
 
 all-none : (p : ScriptItem → Bool) (items : List ScriptItem) → items ≡ [] → list_all p items ≡ true
@@ -309,7 +306,7 @@ of-setup : (only : Bool) (nodes hashes : Option ℕ) (shards : Option Data) (s :
 of-setup only None hashes shards s is = cc
 of-setup only (Some n) None shards s is = cc
 of-setup only (Some n) (Some h) shards s is =
-    ⊎_elim (λ (c : ((only && is_setup n h) ≡ true) × (setup_with n h shards ≡ Some s)). with-setup n h shards s (both only (is_setup n h) c.0).1 c.1)
+    ⊎_elim (λ (c : ((only && is_setup n h) ≡ true) × (setup_with n h shards ≡ Some s)). with-setup n h shards s (and_parts only (is_setup n h) c.0).1 c.1)
     (λ (c : ((only && is_setup n h) ≡ false) × (None ≡ Some s)). cc)
     (if_is (only && is_setup n h) (setup_with n h shards) None s is)
 

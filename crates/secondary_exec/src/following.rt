@@ -12,7 +12,7 @@ use std::alloc::Global;
 use store_api::Store;
 
 /// A secondary that joined its primary's session, which is for a region and a branch.
-#[derive(Debug, Drop)]
+#[derive(Drop)]
 pub struct Following {
     pub primary: NodeId,
     pub region: Region,

@@ -7,7 +7,7 @@ use region_map::{Id, NodeId, Region};
 use std::alloc::Global;
 
 /// What a secondary keeps of a contract until its primary lets it join a session.
-#[derive(Debug, Drop)]
+#[derive(Drop)]
 pub struct Waiting {
     pub primary: NodeId,
     pub region: Region,

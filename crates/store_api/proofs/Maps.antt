@@ -11,6 +11,7 @@ use Rattle.std.proofs.lemmas.Map.{lookup-none}
 use Rattle.std.proofs.lemmas.Map.Entries.{lookup_head, lookup_tail, none_past_head, none_below_head}
 use Rattle.std.proofs.lemmas.Map.Keys.{IsDistinct-from_sorted, sorted_tail}
 use Rattle.std.proofs.lemmas.Map.Lookups.{exact_bytes}
+use Rattle.std.proofs.lemmas.Option.{same_Some}
 use Rattle.store_api.specs.declared.Row.{Row}
 use Rattle.store_api.specs.Rows.{Rows, AreOrdered, row_of}
 use Rattle.store_api.proofs.AtKeys.{same_keys}
@@ -45,9 +46,6 @@ none_behind x xs s =
 none_before : (k : List ℕ) (y : List ℕ × Row) (ys : Rows) → AreOrdered (y ∷ ys) → slice_cmp nat_cmp k y.0 ≡ Less → row_of (y ∷ ys) k ≡ None
 none_before k y ys s lt = lookup-none (is_at (slice_cmp nat_cmp k)) (y ∷ ys) (none_below_head nat_list_cmp_total k y ys s lt)
 
-some_is : {A : Type 0} (a b : A) → Some a ≡ Some b → a ≡ b
-some_is a b e = cc
-
 some_none : {A : Type 0} {P : Type 0} (a : A) (o : Option A) → o ≡ Some a → o ≡ None → P
 some_none a o e f = absurd (cc)
 
@@ -62,7 +60,7 @@ module _ (x y : List ℕ × Row) (xs ys : Rows) (s : AreOrdered (x ∷ xs)) (t :
       ] refl
 
   same_first_row : x.1 ≡ y.1
-  same_first_row = some_is x.1 y.1 (sym (has_first x xs) ∙ same x.0 ∙ ap (row_of (y ∷ ys)) same_first_key ∙ has_first y ys)
+  same_first_row = same_Some x.1 y.1 (sym (has_first x xs) ∙ same x.0 ∙ ap (row_of (y ∷ ys)) same_first_key ∙ has_first y ys)
 
   same_behind : (k : List ℕ) → row_of xs k ≡ row_of ys k
   same_behind k =

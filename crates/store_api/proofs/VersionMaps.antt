@@ -1,6 +1,6 @@
 -- The version maps of the calls are region maps, and have their values at each pair.
 use Rattle.std.proofs.Common.{◌≡◌, ℕ, ◌<◌, true, cond, ◌&&◌, not, nat_lt, nat_le, List, ◌++◌, Some, None, ap, ap₂, ◌∙◌, arith}
-use Rattle.std.proofs.lemmas.Bool.{lt-ltb}
+use Rattle.std.proofs.lemmas.Bool.{lt-ltb, le-leb}
 use Rattle.region_map.specs.declared.id.Id.{Id}
 use Rattle.region_map.specs.declared.region.Region.{Region}
 use Rattle.region_map.specs.Regions.{in_region}
@@ -67,13 +67,10 @@ pub zero_map_canonical : (hashes : ℕ) → 0 < hashes → IsCanonical (zero_map
 zero_map_canonical hashes =
     made_canonical same_version version_decides hashes (ends_of (everything hashes)) (λ h k. cond (in_region (everything hashes) h k) (Some zero) None) (constant_changes (everything hashes) zero)
 
-below_all : (n : ℕ) → nat_le 0 n ≡ true
-below_all n = grind arith
-
 everything_has : (hashes h : ℕ) (k : List ℕ) → h < hashes → in_region (everything hashes) h k ≡ true
 everything_has hashes h k lt =
     ap (λ x. (nat_le 0 h && nat_lt h hashes) && (not x && true)) (before_nil k)
-    ∙ ap (λ x. (x && nat_lt h hashes) && true) (below_all h)
+    ∙ ap (λ x. (x && nat_lt h hashes) && true) (le-leb 0 h (omega arith))
     ∙ ap (λ x. x && true) (lt-ltb h hashes lt)
 
 pub zero_map_at : (hashes h : ℕ) (k : List ℕ) → h < hashes → value_at (zero_map hashes).pieces h k ≡ Some zero

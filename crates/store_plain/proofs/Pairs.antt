@@ -1,7 +1,7 @@
 -- The version of a pair of a hash and a byte list.
 use Rattle.std.proofs.Common.{◌≡◌, ℕ, ◌<◌, ◌≤◌, Bool, true, false, cond, ◌&&◌, not, nat_lt, nat_le, List, Option, Some, None, inl, inr, refl, sym, ap, ◌∙◌, arith}
 use Rattle.std.specs.Option.{is_some}
-use Rattle.std.proofs.lemmas.Bool.{cases_lt, lt-ltb, le-ltb}
+use Rattle.std.proofs.lemmas.Bool.{cases_lt, lt-ltb, le-ltb, le-leb}
 use Rattle.region_map.specs.declared.id.Id.{Id}
 use Rattle.region_map.specs.declared.region.Region.{Region}
 use Rattle.region_map.specs.Regions.{in_region}
@@ -40,9 +40,6 @@ advanced_at part copy branch to hashes n h k v new inside whole en ec is at beyo
           beyond ge ∙ sym (ap (λ x. advanced part branch to h k x) none ∙ advanced_none (in_region part h k) (point branch to))
     ]
 
-below_all : (n : ℕ) → nat_le 0 n ≡ true
-below_all n = grind arith
-
 and_again : (b : Bool) → (b && ((true && b) && true)) ≡ b
 and_again true = refl
 and_again false = refl
@@ -51,7 +48,7 @@ and_again false = refl
 everything_has : (n h : ℕ) (k : List ℕ) → (nat_lt h n && in_region (record { hash_from = 0; hash_to = n; from = None; to = None }) h k) ≡ nat_lt h n
 everything_has n h k =
     ap (λ x. nat_lt h n && ((nat_le 0 h && nat_lt h n) && (not x && true))) (before_nil k)
-    ∙ ap (λ x. nat_lt h n && ((x && nat_lt h n) && true)) (below_all h) ∙ and_again (nat_lt h n)
+    ∙ ap (λ x. nat_lt h n && ((x && nat_lt h n) && true)) (le-leb 0 h (omega arith)) ∙ and_again (nat_lt h n)
 
 -- each of them is at the zero version
 pub begins_at : (n h : ℕ) (k : List ℕ) (first : Version) (v : Option Version) → first ≡ zero

@@ -10,6 +10,4 @@ pub use store::PlainStore;
 
 pub mod rows;
 pub mod store;
-#[cfg(test)]
-mod tests;
 pub mod versions;

@@ -11,9 +11,11 @@ use Rattle.region_map.specs.Maps.{Pieced, Band, AreBands, IsCanonical, value_at,
 use Rattle.region_map.specs.Bands.{row_at}
 use Rattle.region_map.proofs.Bands.{past_band, value_at-pieces_of}
 use Rattle.region_map.proofs.Same.{same_maps}
+use Rattle.region_map.specs.Equal.{same_id}
 use Rattle.branch_history.specs.declared.history.BranchBirth.{BranchBirth}
-use Rattle.branch_history.specs.Paths.{Branches, id_eq}
+use Rattle.branch_history.specs.Paths.{Branches}
 use Rattle.branch_history.specs.Histories.{birth_of, knows}
+use Rattle.branch_history.proofs.PathLaws.{id_same, id_self}
 use Rattle.contract_types.specs.Tilings.{everywhere}
 use Rattle.contract_types.specs.Tables.{branch_at}
 use Rattle.contract_types.proofs.Everywhere.{Below, below_of, fails_somewhere}
@@ -24,7 +26,7 @@ use Rattle.table_apply.specs.Conditions.{same_bounds, same_regions, same_branche
 birth_known : (bs : Branches) (id : Id) → is_some (birth_of bs id) ≡ knows bs id
 birth_known [] id = refl
 birth_known (b ∷ bs) id =
-    elim (id_eq b.0 id) as (λ v. is_some (cond v (Some b.1) (birth_of bs id)) ≡ cond v true (knows bs id)) [ true ↦ refl | false ↦ birth_known bs id ]
+    elim (same_id b.0 id) as (λ v. is_some (cond v (Some b.1) (birth_of bs id)) ≡ cond v true (knows bs id)) [ true ↦ refl | false ↦ birth_known bs id ]
 
 copied_some : (o : Option (Bor BranchBirth)) → is_some (option_copied o) ≡ is_some o
 copied_some None = refl
@@ -34,18 +36,6 @@ pub knows_birth : (bs : Branches) (id : Id) (o : Option (Bor BranchBirth)) → o
 knows_birth bs id o e = sym (copied_some o) ∙ ap is_some e ∙ birth_known bs id
 
 -- ---- equal by their tests
-
-pub id_same : (a b : Id) → id_eq a b ≡ true → a ≡ b
-id_same a b e =
-    let outer = and_parts ((a.node.0 == b.node.0) && (a.life == b.life)) (a.counter == b.counter) e in
-    let inner = and_parts (a.node.0 == b.node.0) (a.life == b.life) outer.0 in
-    let n = eqb-true a.node.0 b.node.0 inner.0 in
-    let l = eqb-true a.life b.life inner.1 in
-    let c = eqb-true a.counter b.counter outer.1 in
-    λ i. record { node = record { 0 = n i }; life = l i; counter = c i }
-
-pub id_self : (a : Id) → id_eq a a ≡ true
-id_self a = and_from _ _ (and_from _ _ (eq-eqb a.node.0 a.node.0 refl) (eq-eqb a.life a.life refl)) (eq-eqb a.counter a.counter refl)
 
 module _ {A : Type 0} (E : A → A → Bool) where
   pointwise_same : ((x y : A) → E x y ≡ true → x ≡ y) → (xs ys : List A) → pointwise E xs ys ≡ true → xs ≡ ys
@@ -85,17 +75,17 @@ pub region_self : (a : Region) → same_regions a a ≡ true
 region_self a = and_from _ _ (and_from _ _ (eq-eqb a.hash_from a.hash_from refl) (eq-eqb a.hash_to a.hash_to refl)) (and_from _ _ (bounds_self a.from) (bounds_self a.to))
 
 pieces_same : (a b : List (Region × Id)) → same_pieces a b ≡ true → a ≡ b
-pieces_same a b e = pointwise_same (λ p q. same_regions p.0 q.0 && id_eq p.1 q.1) one a b e
+pieces_same a b e = pointwise_same (λ p q. same_regions p.0 q.0 && same_id p.1 q.1) one a b e
   where
-    one : (p q : Region × Id) → (same_regions p.0 q.0 && id_eq p.1 q.1) ≡ true → p ≡ q
+    one : (p q : Region × Id) → (same_regions p.0 q.0 && same_id p.1 q.1) ≡ true → p ≡ q
     one p q f =
-        let both = and_parts (same_regions p.0 q.0) (id_eq p.1 q.1) f in
+        let both = and_parts (same_regions p.0 q.0) (same_id p.1 q.1) f in
         let r = region_same p.0 q.0 both.0 in
         let d = id_same p.1 q.1 both.1 in
         λ i. (r i, d i)
 
 pieces_self : (a : List (Region × Id)) → same_pieces a a ≡ true
-pieces_self a = pointwise_self (λ p q. same_regions p.0 q.0 && id_eq p.1 q.1) (λ p. and_from _ _ (region_self p.0) (id_self p.1)) a
+pieces_self a = pointwise_self (λ p q. same_regions p.0 q.0 && same_id p.1 q.1) (λ p. and_from _ _ (region_self p.0) (id_self p.1)) a
 
 pub branches_same : (a b : Option Id) → same_branches a b ≡ true → a ≡ b
 branches_same None None e = refl

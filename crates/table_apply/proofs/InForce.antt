@@ -6,9 +6,10 @@ use Rattle.region_map.specs.declared.id.Id.{Id}
 use Rattle.region_map.specs.declared.region.Region.{Region}
 use Rattle.region_map.specs.Regions.{in_region}
 use Rattle.region_map.specs.Maps.{value_at}
+use Rattle.region_map.specs.Equal.{same_id}
 use Rattle.branch_history.specs.declared.version.Version.{Version}
 use Rattle.branch_history.specs.declared.history.BranchBirth.{BranchBirth}
-use Rattle.branch_history.specs.Paths.{Branches, id_eq, or_zero, origin_at}
+use Rattle.branch_history.specs.Paths.{Branches, or_zero, origin_at}
 use Rattle.branch_history.specs.Histories.{birth_of}
 use Rattle.contract_types.specs.declared.contract.Contract.{Contract}
 use Rattle.contract_types.specs.declared.change.Change.{Change}
@@ -59,7 +60,7 @@ all_begun config changes (suc w) =
 birth_begun : (bs : Branches) (id : Id) (b : BranchBirth) → AllByRecursion begins_at_greatest bs → birth_of bs id ≡ Some b → b.initial ≡ greatest b.origin.pieces
 birth_begun [] id b a e = absurd (cc)
 birth_begun (c ∷ cs) id b a e =
-    elim (id_eq c.0 id) as (λ v. cond v (Some c.1) (birth_of cs id) ≡ Some b → b.initial ≡ greatest b.origin.pieces) [
+    elim (same_id c.0 id) as (λ v. cond v (Some c.1) (birth_of cs id) ≡ Some b → b.initial ≡ greatest b.origin.pieces) [
       | true ↦ λ f. let same : c.1 ≡ b = cc in subst (λ (x : BranchBirth). x.initial ≡ greatest x.origin.pieces) same a.0
       | false ↦ λ f. birth_begun cs id b a.1 f
     ] e

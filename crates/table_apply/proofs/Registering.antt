@@ -1,6 +1,7 @@
 -- A branch that is registered.
 use Rattle.std.proofs.Common.{◌≡◌, ◌==◌, ℕ, suc, true, false, cond, ◌&&◌, not, List, ◌∷◌, None, refl, ap, ◌∙◌}
 use Rattle.std.proofs.lemmas.Bool.{and_parts, eqb-true}
+use Rattle.list_laws.proofs.Members.{IsIn-from_any}
 use Rattle.region_map.specs.declared.id.Id.{Id}
 use Rattle.region_map.specs.declared.id.NodeId.{NodeId}
 use Rattle.region_map.specs.declared.region.Region.{Region}
@@ -9,16 +10,16 @@ use Rattle.region_map.specs.Maps.{Pieced}
 use Rattle.branch_history.specs.declared.version.Version.{Version}
 use Rattle.contract_types.specs.declared.change.Change.{Change}
 use Rattle.contract_types.specs.declared.change.Change.TheVariants.{RegisterBranch}
+use Rattle.contract_types.specs.declared.applied.Applied.TheVariants.{Taken}
+use Rattle.contract_types.specs.declared.applied.Condition.TheVariants.{IdNew, Tenure, BasedOn}
 use Rattle.contract_types.specs.Configs.{ConfigState, IsConfig}
 use Rattle.contract_types.specs.Tables.{Table, branch_at}
-use Rattle.table_apply.specs.declared.applied.Applied.TheVariants.{Taken}
-use Rattle.table_apply.specs.declared.applied.Condition.TheVariants.{IdNew, Tenure, BasedOn}
 use Rattle.table_apply.specs.Conditions.{same_regions, is_held_by, has_tenure, is_based_on, is_new_branch}
 use Rattle.table_apply.specs.Effects.{Effect, skipped, taken, register, birth, applied_at}
 use Rattle.table_apply.specs.Runs.{table_at, Registers}
 use Rattle.table_apply.proofs.Based.{region_same}
 use Rattle.table_apply.proofs.Meaning.{based_means}
-use Rattle.table_apply.proofs.Pairs.{the_one, among_any}
+use Rattle.table_apply.proofs.Pairs.{the_one}
 use Rattle.table_apply.proofs.Tables.{few}
 
 record Passes (t : Table) (branch : Id) (region : Region) (tenure : ℕ) (maker : NodeId) (based_on : Pieced Id) (origin : Pieced Version) : Type 0 where
@@ -49,7 +50,7 @@ pub registers : (config : ConfigState) (changes : List Change) (w : ℕ) (branch
 registers config changes w branch region tenure maker based_on origin h k ok e i =
     let t = table_at config changes w in
     let p = passes t branch region tenure maker based_on origin e in
-    let found = among_any (λ c. same_regions c.region region && ((c.tenure == tenure) && is_held_by c.primary maker)) t.contracts p.held in
+    let found = IsIn-from_any (λ c. same_regions c.region region && ((c.tenure == tenure) && is_held_by c.primary maker)) t.contracts p.held in
     let both = and_parts (same_regions found.0.region region) ((found.0.tenure == tenure) && is_held_by found.0.primary maker) found.2 in
     let rest = and_parts (found.0.tenure == tenure) (is_held_by found.0.primary maker) both.1 in
     let r = region_same found.0.region region both.0 in

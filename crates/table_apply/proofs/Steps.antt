@@ -12,9 +12,9 @@ use Rattle.branch_history.specs.Histories.{knows, knows_origins}
 use Rattle.contract_types.specs.declared.contract.Contract.{Contract}
 use Rattle.contract_types.specs.declared.change.Change.{Change}
 use Rattle.contract_types.specs.declared.change.Change.TheVariants.{Noop, SetConfig, NewContracts, RegisterBranch}
+use Rattle.contract_types.specs.declared.applied.Condition.TheVariants.{Removed, Regions, Primary, IdNew, Tenure, BasedOn}
 use Rattle.contract_types.specs.Configs.{ConfigState}
 use Rattle.contract_types.specs.Tables.{Table}
-use Rattle.table_apply.specs.declared.applied.Condition.TheVariants.{Removed, Regions, Primary, IdNew, Tenure, BasedOn}
 use Rattle.table_apply.specs.Conditions.{leaving, are_current, tile, have_primaries, are_new, has_tenure, is_based_on, is_new_branch}
 use Rattle.table_apply.specs.Effects.{Effect, skipped, taken, replaced, birth, applied_at, FitsTable}
 

@@ -2,27 +2,33 @@
 use Rattle.std.proofs.Common.{◌≡◌, ◌==◌, ℕ, zero, suc, ◌+◌, ◌<◌, ◌≤◌, ◌⊎◌, Bool, true, false, cond, ◌&&◌, ◌||◌, not, nat_lt, List, [], ◌∷◌, ◌++◌, map, filter, Option, Some, None, inl, inr, refl, sym, ap, ap₂, ◌∙◌, subst, arith}
 use Rattle.std.specs.List.{AllByRecursion, list_any}
 use Rattle.std.specs.Option.{is_some}
-use Rattle.std.proofs.lemmas.Bool.{and_parts, and_right, or_parts, or_cases, not-true, eqb-true, eq-eqb, ne_eqb, lt-ltb, le-ltb, cases_lt, cases_eq, cond_both, both_ways}
+use Rattle.std.proofs.lemmas.Bool.{and_parts, and_right, or_parts, or_cases, not-true, eqb-true, eq-eqb, ne_eqb, lt-ltb, cases_lt, cond_both, both_ways}
+use Rattle.list_laws.proofs.All.{all_append, all_filter}
+use Rattle.list_laws.proofs.Counts.{counts_at_most_once}
+use Rattle.list_laws.specs.Members.{IsIn}
+use Rattle.list_laws.proofs.Members.{IsIn-append, IsIn-filter, IsIn-map, IsIn-from_any, passes_member, all_member}
+use Rattle.contract_types.proofs.Shards.{one_shard}
 use Rattle.region_map.specs.declared.id.Id.{Id}
-use Rattle.region_map.specs.Regions.{in_region, in_range}
-use Rattle.region_map.proofs.Bands.{past_band}
+use Rattle.region_map.specs.Regions.{in_region}
+use Rattle.region_map.specs.Equal.{same_id}
 use Rattle.branch_history.specs.declared.history.BranchBirth.{BranchBirth}
-use Rattle.branch_history.specs.Paths.{Branches, id_eq}
+use Rattle.branch_history.specs.Paths.{Branches}
 use Rattle.branch_history.specs.Histories.{birth_of, knows, HasHashes, IsHistory}
+use Rattle.branch_history.proofs.PathLaws.{id_same, id_self}
 use Rattle.contract_types.specs.declared.contract.Contract.{Contract}
 use Rattle.contract_types.specs.declared.contract.Holder.{Holder}
 use Rattle.contract_types.specs.declared.change.Change.{Change}
 use Rattle.contract_types.specs.declared.config.ShardConfig.{ShardConfig}
-use Rattle.contract_types.specs.Configs.{ConfigState, IsConfig, shard_region, is_bad_region, has_bad_region}
+use Rattle.contract_types.specs.Configs.{ConfigState, IsConfig, shard_region}
 use Rattle.contract_types.specs.Tilings.{holders}
 use Rattle.contract_types.specs.Tables.{AllBelow, branch_at, first_contract, first_contracts, first_id, first_birth, first_branches}
-use Rattle.contract_types.proofs.Begins.{good, regions_good, some_branch, below_unknown, below_next}
+use Rattle.contract_types.proofs.Begins.{some_branch, below_unknown, below_next}
 use Rattle.table_apply.specs.Conditions.{contract_region, leaving, staying, has_id, is_held, same_regions, same_primaries, may_follow, are_new}
 use Rattle.table_apply.specs.Effects.{tenure_from, placed, replaced, applied_at, FitsTable}
 use Rattle.table_apply.specs.Runs.{change_at, table_at, contract_at, how_many, Replaces, Goes, IsPast, AreFounded}
-use Rattle.table_apply.proofs.Based.{id_same, id_self, region_same}
+use Rattle.table_apply.proofs.Based.{region_same}
 use Rattle.table_apply.proofs.Steps.{Accepted, contracts_after, history_after}
-use Rattle.table_apply.proofs.Pairs.{Among, among_append, among_filter, among_map, among_any, among_all, the_one, at_is, some_at, has_some, holders_split, tiled, replaced_count}
+use Rattle.table_apply.proofs.Pairs.{the_one, at_is, some_at, has_some, holders_split, tiled, replaced_count}
 
 -- ---- one contract has each pair
 
@@ -30,52 +36,18 @@ first_count : (place : ℕ) (shards : List ShardConfig) (h : ℕ) (k : List ℕ)
 first_count place [] h k = refl
 first_count place (s ∷ ss) h k = ap (λ n. cond (in_region s.region h k) (1 + n) n) (first_count (place + 1) ss h k)
 
-none_past : (hashes : ℕ) (shards : List ShardConfig) (h : ℕ) (k : List ℕ) → has_bad_region hashes shards ≡ false → hashes ≤ h → holders shard_region shards h k ≡ 0
-none_past hashes [] h k e l = refl
-none_past hashes (s ∷ ss) h k e l =
-    let parts = or_parts (is_bad_region hashes s.region) (has_bad_region hashes ss) e in
-    let g = good hashes s.region parts.0 in
-    let m : s.region.hash_to ≤ h = let w = g.within in omega arith in
-    ap (λ v. cond (v && in_range s.region.from s.region.to k) (1 + holders shard_region ss h k) (holders shard_region ss h k)) (past_band s.region.hash_from s.region.hash_to h m)
-    ∙ none_past hashes ss h k parts.1 l
-
-config_count : (c : ConfigState) (h : ℕ) (k : List ℕ) → IsConfig c → holders shard_region c.shards h k ≡ cond (nat_lt h c.hashes) 1 0
-config_count c h k ok =
-    elim (cases_lt h c.hashes) [
-      | inl l ↦ one l ∙ sym (ap (λ v. cond v 1 0) (lt-ltb h c.hashes l))
-      | inr l ↦ none_past c.hashes c.shards h k (regions_good c ok) l ∙ sym (ap (λ v. cond v 1 0) (le-ltb h c.hashes l))
-    ]
-  where
-    one : h < c.hashes → holders shard_region c.shards h k ≡ 1
-    one l =
-        elim (cases_lt 1 (holders shard_region c.shards h k)) [
-          | inl m ↦ absurd (ok.apart (h, k, m))
-          | inr m ↦ elim (cases_eq (holders shard_region c.shards h k) 0) [
-            | inl e ↦ absurd (ok.whole (h, k, l, e))
-            | inr n ↦ at_one (holders shard_region c.shards h k) m n
-          ]
-        ]
-      where
-        at_one : (n : ℕ) → n ≤ 1 → (n ≡ 0 → ⊥) → n ≡ 1
-        at_one zero m f = absurd (f refl)
-        at_one (suc n) m f = omega arith
-
-one_or_none : (b : Bool) → cond b 1 0 ≤ 1
-one_or_none true = omega arith
-one_or_none false = omega arith
-
 pub count : (config : ConfigState) (changes : List Change) (w h : ℕ) (k : List ℕ) → IsConfig config
     → holders contract_region (table_at config changes w).contracts h k ≡ cond (nat_lt h config.hashes) 1 0
-count config changes zero h k ok = first_count 0 config.shards h k ∙ config_count config h k ok
+count config changes zero h k ok = first_count 0 config.shards h k ∙ one_shard config h k ok
 count config changes (suc w) h k ok =
     let t = table_at config changes w in
     let before = count config changes w h k ok in
-    let at_most : holders contract_region t.contracts h k ≤ 1 = subst (λ n. n ≤ 1) (sym before) (one_or_none (nat_lt h config.hashes)) in
+    let at_most : holders contract_region t.contracts h k ≤ 1 = subst (λ n. n ≤ 1) (sym before) (counts_at_most_once (nat_lt h config.hashes)) in
     contracts_after (λ cs. holders contract_region cs h k ≡ cond (nat_lt h config.hashes) 1 0) t (suc w) (change_at changes w) before
     (λ removed added a. replaced_count t.contracts (suc w) removed added h k a at_most ∙ before)
 
 pub few : (config : ConfigState) (changes : List Change) (w h : ℕ) (k : List ℕ) → IsConfig config → holders contract_region (table_at config changes w).contracts h k ≤ 1
-few config changes w h k ok = subst (λ n. n ≤ 1) (sym (count config changes w h k ok)) (one_or_none (nat_lt h config.hashes))
+few config changes w h k ok = subst (λ n. n ≤ 1) (sym (count config changes w h k ok)) (counts_at_most_once (nat_lt h config.hashes))
 
 pub some : (config : ConfigState) (changes : List Change) (w h : ℕ) (k : List ℕ) → IsConfig config → h < config.hashes
     → is_some (contract_at (table_at config changes w).contracts h k) ≡ true
@@ -89,25 +61,25 @@ some config changes w h k ok l =
 many_append : (xs ys : List Contract) (id : Id) → how_many (xs ++ ys) id ≡ how_many xs id + how_many ys id
 many_append [] ys id = omega arith
 many_append (x ∷ xs) ys id =
-    elim (id_eq x.id id) as (λ v. cond v (1 + how_many (xs ++ ys) id) (how_many (xs ++ ys) id) ≡ cond v (1 + how_many xs id) (how_many xs id) + how_many ys id) [
+    elim (same_id x.id id) as (λ v. cond v (1 + how_many (xs ++ ys) id) (how_many (xs ++ ys) id) ≡ cond v (1 + how_many xs id) (how_many xs id) + how_many ys id) [
       | true ↦ let e = many_append xs ys id in omega arith
       | false ↦ many_append xs ys id
     ]
 
 many_placed : (removed : List Contract) (index : ℕ) (added : List Contract) (id : Id) → how_many (map (placed removed index) added) id ≡ how_many added id
 many_placed removed index [] id = refl
-many_placed removed index (c ∷ cs) id = ap (λ n. cond (id_eq c.id id) (1 + n) n) (many_placed removed index cs id)
+many_placed removed index (c ∷ cs) id = ap (λ n. cond (same_id c.id id) (1 + n) n) (many_placed removed index cs id)
 
 many_filter : (p : Contract → Bool) (cs : List Contract) (id : Id) → how_many (filter p cs) id ≤ how_many cs id
 many_filter p [] id = omega arith
 many_filter p (c ∷ cs) id =
     let e = many_filter p cs id in
-    elim (p c) as (λ u. how_many (cond u (c ∷ filter p cs) (filter p cs)) id ≤ cond (id_eq c.id id) (1 + how_many cs id) (how_many cs id)) [
-      | true ↦ elim (id_eq c.id id) as (λ v. cond v (1 + how_many (filter p cs) id) (how_many (filter p cs) id) ≤ cond v (1 + how_many cs id) (how_many cs id)) [
+    elim (p c) as (λ u. how_many (cond u (c ∷ filter p cs) (filter p cs)) id ≤ cond (same_id c.id id) (1 + how_many cs id) (how_many cs id)) [
+      | true ↦ elim (same_id c.id id) as (λ v. cond v (1 + how_many (filter p cs) id) (how_many (filter p cs) id) ≤ cond v (1 + how_many cs id) (how_many cs id)) [
         | true ↦ omega arith
         | false ↦ e
       ]
-      | false ↦ elim (id_eq c.id id) as (λ v. how_many (filter p cs) id ≤ cond v (1 + how_many cs id) (how_many cs id)) [
+      | false ↦ elim (same_id c.id id) as (λ v. how_many (filter p cs) id ≤ cond v (1 + how_many cs id) (how_many cs id)) [
         | true ↦ omega arith
         | false ↦ e
       ]
@@ -116,7 +88,7 @@ many_filter p (c ∷ cs) id =
 none_id : (cs : List Contract) (id : Id) → has_id cs id ≡ false → how_many cs id ≡ 0
 none_id [] id e = refl
 none_id (c ∷ cs) id e =
-    let parts = or_parts (id_eq c.id id) (has_id cs id) e in
+    let parts = or_parts (same_id c.id id) (has_id cs id) e in
     ap (λ v. cond v (1 + how_many cs id) (how_many cs id)) parts.0 ∙ none_id cs id parts.1
 
 record NewIds (contracts added : List Contract) (id : Id) : Type 0 where
@@ -128,7 +100,7 @@ new_ids contracts [] id e = record { one = omega arith; apart = λ l. absurd (om
 new_ids contracts (c ∷ cs) id e =
     let outer = and_parts (not (has_id contracts c.id) && not (has_id cs c.id)) (are_new contracts cs) e in
     let both = and_parts (not (has_id contracts c.id)) (not (has_id cs c.id)) outer.0 in
-    elim (id_eq c.id id) as (λ v. id_eq c.id id ≡ v → NewIds contracts (c ∷ cs) id) [
+    elim (same_id c.id id) as (λ v. same_id c.id id ≡ v → NewIds contracts (c ∷ cs) id) [
       | true ↦ λ f.
           let same = id_same c.id id f in
           let mine = subst (λ i. how_many cs i ≡ 0) same (none_id cs c.id (not-true _ both.1)) in
@@ -153,7 +125,7 @@ none_below place (s ∷ ss) id l =
 first_ids : (place : ℕ) (shards : List ShardConfig) (id : Id) → how_many (first_contracts place shards) id ≤ 1
 first_ids place [] id = omega arith
 first_ids place (s ∷ ss) id =
-    elim (id_eq (first_contract place s).id id) as (λ v. id_eq (first_contract place s).id id ≡ v
+    elim (same_id (first_contract place s).id id) as (λ v. same_id (first_contract place s).id id ≡ v
     → cond v (1 + how_many (first_contracts (place + 1) ss) id) (how_many (first_contracts (place + 1) ss) id) ≤ 1) [
       | true ↦ λ e.
           let n : place ≡ id.counter = ap (λ (i : Id). i.counter) (id_same (first_contract place s).id id e) in
@@ -182,7 +154,7 @@ ids config changes (suc w) id =
 
 record Keeps (removed : List Contract) (index : ℕ) (c : Contract) : Type 0 where
   old : Contract
-  among : Among old removed
+  is_in : IsIn removed old
   region : same_regions old.region c.region ≡ true
   primary : same_primaries old.primary c.primary ≡ true
   tenure : tenure_from removed index c ≡ old.tenure
@@ -194,12 +166,12 @@ tenure_of (r ∷ rs) index c =
     → (tenure_from (r ∷ rs) index c ≡ index) ⊎ Keeps (r ∷ rs) index c) [
       | true ↦ λ e.
           let both = and_parts (same_regions r.region c.region) (same_primaries r.primary c.primary) e in
-          inr (record { old = r; among = inl refl; region = both.0; primary = both.1; tenure = ap (λ v. cond v r.tenure (tenure_from rs index c)) e })
+          inr (record { old = r; is_in = inl refl; region = both.0; primary = both.1; tenure = ap (λ v. cond v r.tenure (tenure_from rs index c)) e })
       | false ↦ λ e.
           let here : tenure_from (r ∷ rs) index c ≡ tenure_from rs index c = ap (λ v. cond v r.tenure (tenure_from rs index c)) e in
           elim (tenure_of rs index c) [
             | inl f ↦ inl (here ∙ f)
-            | inr f ↦ inr (record { old = f.old; among = inr f.among; region = f.region; primary = f.primary; tenure = here ∙ f.tenure })
+            | inr f ↦ inr (record { old = f.old; is_in = inr f.is_in; region = f.region; primary = f.primary; tenure = here ∙ f.tenure })
           ]
     ] refl
 
@@ -211,15 +183,15 @@ step : (contracts : List Contract) (index : ℕ) (removed : List Id) (added : Li
     → (contract_at contracts h k ≡ Some c) ⊎ ((old : Contract) × (contract_at contracts h k ≡ Some old) × Replaces index old c)
 step contracts index removed added h k c a l e =
     let here = at_is (replaced contracts index removed added) h k c e in
-    elim (among_append c (staying contracts removed) (map (placed (leaving contracts removed) index) added) here.0) [
-      | inl b ↦ inl (the_one contracts h k c l (among_filter _ c contracts b) here.1)
-      | inr b ↦ came (among_map (placed (leaving contracts removed) index) c added b) here.1
+    elim (IsIn-append (staying contracts removed) (map (placed (leaving contracts removed) index) added) c here.0) [
+      | inl b ↦ inl (the_one contracts h k c l (IsIn-filter _ contracts c b).0 here.1)
+      | inr b ↦ came (IsIn-map (placed (leaving contracts removed) index) added c b) here.1
     ]
   where
-    came : (x : Contract) × (Among x added) × (c ≡ placed (leaving contracts removed) index x) → in_region c.region h k ≡ true
+    came : (x : Contract) × (IsIn added x) × (placed (leaving contracts removed) index x ≡ c) → in_region c.region h k ≡ true
         → (contract_at contracts h k ≡ Some c) ⊎ ((old : Contract) × (contract_at contracts h k ≡ Some old) × Replaces index old c)
     came (x, m, f) i =
-        let j : in_region x.region h k ≡ true = sym (ap (λ (y : Contract). in_region y.region h k) f) ∙ i in
+        let j : in_region x.region h k ≡ true = ap (λ (y : Contract). in_region y.region h k) f ∙ i in
         let added_one = has_some added h k x m j in
         let t = tiled contracts removed added h k a in
         let s = holders_split contracts removed h k in
@@ -227,16 +199,16 @@ step contracts index removed added h k c a l e =
         let left_few : holders contract_region (leaving contracts removed) h k ≤ 1 = omega (arith, s, l) in
         let found = some_at (leaving contracts removed) h k left in
         let old = found.0 in
-        let old_at = the_one contracts h k old l (among_filter _ old contracts found.2) found.3 in
+        let old_at = the_one contracts h k old l (IsIn-filter _ contracts old found.2).0 found.3 in
         let R : Contract → Type 0 = λ y. Replaces index old y in
-        inr (old, old_at, subst R (sym f) (replaces x m j old found.1 left_few))
+        inr (old, old_at, subst R f (replaces x m j old found.1 left_few))
       where
         -- a removed contract that has the pair is the pair's
         is_old : (old : Contract) → contract_at (leaving contracts removed) h k ≡ Some old → holders contract_region (leaving contracts removed) h k ≤ 1
-            → (r : Contract) → Among r (leaving contracts removed) → in_region r.region h k ≡ true → r ≡ old
+            → (r : Contract) → IsIn (leaving contracts removed) r → in_region r.region h k ≡ true → r ≡ old
         is_old old at few r b i = let e : Some r ≡ Some old = sym (the_one (leaving contracts removed) h k r few b i) ∙ at in cc
 
-        replaces : (x : Contract) → Among x added → in_region x.region h k ≡ true → (old : Contract) → contract_at (leaving contracts removed) h k ≡ Some old
+        replaces : (x : Contract) → IsIn added x → in_region x.region h k ≡ true → (old : Contract) → contract_at (leaving contracts removed) h k ≡ Some old
             → holders contract_region (leaving contracts removed) h k ≤ 1 → Replaces index old (placed (leaving contracts removed) index x)
         replaces x m j old at few = record {
           since = refl;
@@ -247,7 +219,7 @@ step contracts index removed added h k c a l e =
             | inl e ↦ inl e
             | inr g ↦
                 let r = region_same g.old.region x.region g.region in
-                let same : g.old ≡ old = is_old old at few g.old g.among (has_pair g.old x h k r j) in
+                let same : g.old ≡ old = is_old old at few g.old g.is_in (has_pair g.old x h k r j) in
                 let P : Contract → Type 0 = λ y. (y.region ≡ x.region) × (same_primaries y.primary x.primary ≡ true) × (tenure_from (leaving contracts removed) index x ≡ y.tenure) in
                 inr (subst P same (r, g.primary, g.tenure))
           ];
@@ -255,11 +227,11 @@ step contracts index removed added h k c a l e =
           where
             follows : is_held x.primary ≡ true → (same_regions old.region x.region ≡ true) × ((not (is_held old.primary) || same_primaries old.primary x.primary) ≡ true)
             follows held =
-                let asked = among_all (λ c. not (is_held c.primary) || list_any (may_follow c) (leaving contracts removed)) x added a.primaries m in
+                let asked = passes_member (λ c. not (is_held c.primary) || list_any (may_follow c) (leaving contracts removed)) x added a.primaries m in
                 elim (or_cases (not (is_held x.primary)) (list_any (may_follow x) (leaving contracts removed)) asked) [
                   | inl n ↦ absurd (both_ways (is_held x.primary) (not-true _ n) held)
                   | inr n ↦
-                      let r = among_any (may_follow x) (leaving contracts removed) n in
+                      let r = IsIn-from_any (may_follow x) (leaving contracts removed) n in
                       let both = and_parts (same_regions r.0.region x.region) (not (is_held r.0.primary) || same_primaries r.0.primary x.primary) r.2 in
                       let same : r.0 ≡ old = is_old old at few r.0 r.1 (has_pair r.0 x h k (region_same r.0.region x.region both.0) j) in
                       let P : Contract → Type 0 = λ y. (same_regions y.region x.region ≡ true) × ((not (is_held y.primary) || same_primaries y.primary x.primary) ≡ true) in
@@ -279,22 +251,6 @@ follows config changes w h k c ok =
 
 -- ---- nothing is from the future
 
-all_append : {X : Type 0} (P : X → Type 0) (xs ys : List X) → AllByRecursion P xs → AllByRecursion P ys → AllByRecursion P (xs ++ ys)
-all_append P [] ys a b = b
-all_append P (x ∷ xs) ys a b = (a.0, all_append P xs ys a.1 b)
-
-all_filter : {X : Type 0} (P : X → Type 0) (p : X → Bool) (xs : List X) → AllByRecursion P xs → AllByRecursion P (filter p xs)
-all_filter P p [] a = tt
-all_filter P p (x ∷ xs) a =
-    elim (p x) as (λ v. AllByRecursion P (cond v (x ∷ filter p xs) (filter p xs))) [
-      | true ↦ (a.0, all_filter P p xs a.1)
-      | false ↦ all_filter P p xs a.1
-    ]
-
-all_among : {X : Type 0} (P : X → Type 0) (xs : List X) (x : X) → AllByRecursion P xs → Among x xs → P x
-all_among P [] x a m = absurd m
-all_among P (y ∷ ys) x a m = elim m [ inl e ↦ subst P (sym e) a.0 | inr n ↦ all_among P ys x a.1 n ]
-
 past_next : (w : ℕ) (cs : List Contract) → AllByRecursion (IsPast w) cs → AllByRecursion (IsPast (suc w)) cs
 past_next w [] a = tt
 past_next w (c ∷ cs) a = (record { tenure = a.0.tenure; since = let s = a.0.since in omega arith }, past_next w cs a.1)
@@ -307,7 +263,7 @@ past_placed w removed (c ∷ cs) a = (
     tenure = elim (tenure_of removed (suc w) c) [
       | inl e ↦ omega (arith, e)
       | inr g ↦
-          let p = all_among (IsPast w) removed g.old a g.among in
+          let p = all_member (IsPast w) removed a g.old g.is_in in
           let s = p.since in
           let u = p.tenure in
           omega (arith, g.tenure, s, u)
@@ -386,7 +342,7 @@ pub rise : (config : ConfigState) (changes : List Change) (v w h : ℕ) (k : Lis
 rise config changes v w h k c d ok l e f =
     elim (cases_lt v d.tenure) [
       | inl m ↦
-          let p = all_among (IsPast v) (table_at config changes v).contracts c (past config changes v) (at_is (table_at config changes v).contracts h k c e).0 in
+          let p = all_member (IsPast v) (table_at config changes v).contracts (past config changes v) c (at_is (table_at config changes v).contracts h k c e).0 in
           let s = p.since in
           let t = p.tenure in
           (omega (arith, m, s, t), λ q. absurd (omega (arith, m, s, t, q)))
@@ -454,7 +410,7 @@ some_current config changes (suc w) h k ok l =
 is_known : (bs : Branches) (id : Id) (b : BranchBirth) → birth_of bs id ≡ Some b → knows bs id ≡ true
 is_known [] id b e = absurd (cc)
 is_known (c ∷ cs) id b e =
-    elim (id_eq c.0 id) as (λ v. cond v (Some c.1) (birth_of cs id) ≡ Some b → cond v true (knows cs id) ≡ true) [
+    elim (same_id c.0 id) as (λ v. cond v (Some c.1) (birth_of cs id) ≡ Some b → cond v true (knows cs id) ≡ true) [
       | true ↦ λ f. refl
       | false ↦ λ f. is_known cs id b f
     ] e
@@ -464,15 +420,15 @@ named : (bs : Branches) (h : ℕ) (k : List ℕ) (id : Id) → AreFounded bs →
 named [] h k id f e = absurd (cc)
 named (c ∷ cs) h k id f e =
     elim (in_region c.1.region h k) as (λ v. in_region c.1.region h k ≡ v → cond v (Some c.0) (branch_at cs h k) ≡ Some id
-    → (b : BranchBirth) × (cond (id_eq c.0 id) (Some c.1) (birth_of cs id) ≡ Some b) × (in_region b.region h k ≡ true)) [
+    → (b : BranchBirth) × (cond (same_id c.0 id) (Some c.1) (birth_of cs id) ≡ Some b) × (in_region b.region h k ≡ true)) [
       | true ↦ λ i g.
           let same : c.0 ≡ id = cc in
-          let itself : id_eq c.0 id ≡ true = ap (λ x. id_eq c.0 x) (sym same) ∙ id_self c.0 in
+          let itself : same_id c.0 id ≡ true = ap (λ x. same_id c.0 x) (sym same) ∙ id_self c.0 in
           (c.1, ap (λ v. cond v (Some c.1) (birth_of cs id)) itself, i)
       | false ↦ λ i g.
           let r = named cs h k id f.2 g in
           let known = is_known cs id r.0 r.1 in
-          elim (id_eq c.0 id) as (λ v. id_eq c.0 id ≡ v → (b : BranchBirth) × (cond v (Some c.1) (birth_of cs id) ≡ Some b) × (in_region b.region h k ≡ true)) [
+          elim (same_id c.0 id) as (λ v. same_id c.0 id ≡ v → (b : BranchBirth) × (cond v (Some c.1) (birth_of cs id) ≡ Some b) × (in_region b.region h k ≡ true)) [
             | true ↦ λ j. absurd (both_ways (knows cs c.0) f.0 (ap (λ x. knows cs x) (id_same c.0 id j) ∙ known))
             | false ↦ λ j. r
           ] refl

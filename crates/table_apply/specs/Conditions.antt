@@ -7,9 +7,10 @@ use Rattle.region_map.specs.declared.id.NodeId.{NodeId}
 use Rattle.region_map.specs.declared.region.Region.{Region}
 use Rattle.region_map.specs.Regions.{in_region}
 use Rattle.region_map.specs.Maps.{Pieced, value_at}
+use Rattle.region_map.specs.Equal.{same_id}
 use Rattle.branch_history.specs.declared.version.Version.{Version}
 use Rattle.branch_history.specs.declared.history.BranchBirth.{BranchBirth}
-use Rattle.branch_history.specs.Paths.{Branches, id_eq}
+use Rattle.branch_history.specs.Paths.{Branches}
 use Rattle.branch_history.specs.Histories.{knows, knows_origins}
 use Rattle.contract_types.specs.declared.contract.Contract.{Contract}
 use Rattle.contract_types.specs.declared.contract.Holder.{Holder}
@@ -20,10 +21,10 @@ use Rattle.contract_types.specs.Tables.{branch_at}
 -- ---- contracts by id
 
 abbrev pub is_among : List Id → Id → Bool
-is_among ids id = list_any (λ i. id_eq i id) ids
+is_among ids id = list_any (λ i. same_id i id) ids
 
 abbrev pub has_id : List Contract → Id → Bool
-has_id contracts id = list_any (λ c. id_eq c.id id) contracts
+has_id contracts id = list_any (λ c. same_id c.id id) contracts
 
 -- the contracts that leave, and those that stay
 abbrev pub leaving : List Contract → List Id → List Contract
@@ -95,7 +96,7 @@ abbrev pub same_branches : Option Id → Option Id → Bool
 same_branches None None = true
 same_branches None (Some b) = false
 same_branches (Some a) None = false
-same_branches (Some a) (Some b) = id_eq a b
+same_branches (Some a) (Some b) = same_id a b
 
 abbrev pub branch_region : Id × BranchBirth → Region
 branch_region b = b.1.region
@@ -123,7 +124,7 @@ is_based_on hashes history region based_on =
 
 -- whether two lists of pieces are the same
 abbrev pub same_pieces : List (Region × Id) → List (Region × Id) → Bool
-same_pieces a b = pointwise (λ p q. same_regions p.0 q.0 && id_eq p.1 q.1) a b
+same_pieces a b = pointwise (λ p q. same_regions p.0 q.0 && same_id p.1 q.1) a b
 
 -- the branch is new, and each branch that it goes on from is registered
 abbrev pub is_new_branch : Branches → Id → List (Region × Version) → Bool

@@ -9,11 +9,11 @@ use Rattle.branch_history.specs.declared.history.BranchBirth.{BranchBirth}
 use Rattle.contract_types.specs.declared.contract.Contract.{Contract}
 use Rattle.contract_types.specs.declared.change.Change.{Change}
 use Rattle.contract_types.specs.declared.change.Change.TheVariants.{Noop, SetConfig, NewContracts, RegisterBranch}
+use Rattle.contract_types.specs.declared.applied.Applied.{Applied}
+use Rattle.contract_types.specs.declared.applied.Applied.TheVariants.{Taken, Skipped}
+use Rattle.contract_types.specs.declared.applied.Condition.{Condition}
+use Rattle.contract_types.specs.declared.applied.Condition.TheVariants.{Removed, Regions, Primary, IdNew, Tenure, BasedOn}
 use Rattle.contract_types.specs.Tables.{Table}
-use Rattle.table_apply.specs.declared.applied.Applied.{Applied}
-use Rattle.table_apply.specs.declared.applied.Applied.TheVariants.{Taken, Skipped}
-use Rattle.table_apply.specs.declared.applied.Condition.{Condition}
-use Rattle.table_apply.specs.declared.applied.Condition.TheVariants.{Removed, Regions, Primary, IdNew, Tenure, BasedOn}
 use Rattle.table_apply.specs.Conditions.{leaving, staying, same_regions, same_primaries, are_current, tile, have_primaries, are_new, has_tenure, is_based_on, is_new_branch}
 
 -- the table after a change, and whether it was taken

@@ -6,7 +6,8 @@ use Rattle.region_map.specs.declared.id.NodeId.{NodeId}
 use Rattle.region_map.specs.declared.region.Region.{Region}
 use Rattle.region_map.specs.Regions.{in_region}
 use Rattle.region_map.specs.Maps.{Pieced, value_at}
-use Rattle.branch_history.specs.Paths.{Branches, id_eq}
+use Rattle.region_map.specs.Equal.{same_id}
+use Rattle.branch_history.specs.Paths.{Branches}
 use Rattle.branch_history.specs.Histories.{knows, knows_origins}
 use Rattle.contract_types.specs.declared.contract.Contract.{Contract}
 use Rattle.contract_types.specs.declared.change.Change.{Change}
@@ -33,7 +34,7 @@ contract_at (c ∷ cs) h k = if in_region c.region h k then Some c else contract
 -- how many contracts have an id
 abbrev pub how_many : List Contract → Id → ℕ
 how_many [] id = 0
-how_many (c ∷ cs) id = if id_eq c.id id then 1 + how_many cs id else how_many cs id
+how_many (c ∷ cs) id = if same_id c.id id then 1 + how_many cs id else how_many cs id
 
 -- a contract that a change at an index puts in the place of another. If it has a primary, its region stays, and
 -- the other had the same primary server or none. Its tenure begins, or it goes on with that of the other, and

@@ -15,11 +15,11 @@ ghost use Rattle.branch_history.specs.Histories.{birth_of, IsHistory};
 ghost use Rattle.contract_types.specs.declared.contract.Contract.{Contract};
 ghost use Rattle.contract_types.specs.declared.change.Change.{Change};
 ghost use Rattle.contract_types.specs.declared.change.Change.TheVariants.{RegisterBranch};
+ghost use Rattle.contract_types.specs.declared.applied.Applied.TheVariants.{Taken};
 ghost use Rattle.contract_types.specs.Configs.{ConfigState, IsConfig};
 ghost use Rattle.contract_types.specs.Tilings.{holders};
 ghost use Rattle.contract_types.specs.Tables.{branch_at};
 ghost use Rattle.table_apply.specs.Conditions.{contract_region, tile, branch_on, is_based_on};
-ghost use Rattle.table_apply.specs.declared.applied.Applied.TheVariants.{Taken};
 ghost use Rattle.table_apply.specs.Effects.{applied_at, FitsTable};
 ghost use Rattle.table_apply.specs.Runs.{Registers, table_at, change_at, contract_at, how_many, Replaces, Goes, IsPast, AreFounded};
 

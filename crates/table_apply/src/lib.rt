@@ -5,7 +5,6 @@
 //! condition that does not hold, with nothing changed. The laws say what then holds of every table.
 #![tactic(auto)]
 
-pub use applied::{Applied, Condition};
 pub use beginnings::{branches_begin_in_time, contracts_last};
 pub use contracts::{is_held_by, same_regions};
 pub use laws::{
@@ -16,11 +15,8 @@ pub use laws::{
 };
 pub use log_change::apply;
 
-pub mod applied;
 pub mod beginnings;
 mod branches;
 mod contracts;
 pub mod laws;
 pub mod log_change;
-#[cfg(test)]
-mod tests;

@@ -4,9 +4,8 @@ ghost use Rattle.table_apply.specs.Effects.{applied_at, new_contracts, register,
 
 use crate::branches::{greatest, has_tenure, is_based_on, is_new_branch};
 use crate::contracts::{add_placed, are_current, are_new, have_primaries, leaving, staying, tile};
-use crate::{Applied, Condition};
 use branch_history::{BranchBirth, Version};
-use contract_types::{Change, Contract, Contracts, TableState};
+use contract_types::{Applied, Change, Condition, Contract, Contracts, TableState};
 use memory::OutOfMemory;
 use region_map::{Id, NodeId, Region, RegionMap};
 use std::alloc::Global;

@@ -5,8 +5,8 @@ use Rattle.std.proofs.lemmas.Bool.Decides.{nat_tests}
 use Rattle.std.proofs.lemmas.List.{length_push, get_or_push, get_or_append_left}
 use Rattle.std.proofs.lemmas.Option.{slice_get-get_or}
 use Rattle.contract_types.specs.declared.change.Change.{Change}
+use Rattle.contract_types.specs.declared.applied.Applied.{Applied}
 use Rattle.contract_types.specs.Configs.{ConfigState}
-use Rattle.table_apply.specs.declared.applied.Applied.{Applied}
 use Rattle.table_log.specs.Fitting.{changes_of}
 use Rattle.table_log.specs.Logs.{LogState, result_at, results_from, results, caught_up, viewed}
 

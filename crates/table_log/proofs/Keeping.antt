@@ -13,9 +13,9 @@ use Rattle.raft_node.specs.Rows.{raft_step, proposed, is_well_formed}
 use Rattle.raft_node.specs.Committed.{KeepsCommitted}
 use Rattle.contract_types.specs.declared.change.Change.{Change}
 use Rattle.contract_types.specs.declared.change.Change.TheVariants.{Noop}
+use Rattle.contract_types.specs.declared.applied.Applied.{Applied}
 use Rattle.contract_types.specs.Configs.{ConfigState}
 use Rattle.contract_types.specs.Tables.{Table}
-use Rattle.table_apply.specs.declared.applied.Applied.{Applied}
 use Rattle.table_apply.specs.Effects.{Effect, applied_at, FitsTable}
 use Rattle.table_apply.specs.Runs.{change_at, table_at}
 use Rattle.table_log.specs.Fitting.{changes_of, fits, log_fits, input_fits}

@@ -8,12 +8,12 @@ use Rattle.raft_node.specs.State.{RaftState, begun, kept_of}
 use Rattle.raft_node.specs.Rows.{raft_step, proposed, is_well_formed}
 use Rattle.contract_types.specs.declared.change.Change.{Change}
 use Rattle.contract_types.specs.declared.change.Change.TheVariants.{Noop}
+use Rattle.contract_types.specs.declared.applied.Applied.{Applied}
+use Rattle.contract_types.specs.declared.results.Viewed.{Viewed}
 use Rattle.contract_types.specs.Configs.{ConfigState}
 use Rattle.contract_types.specs.Tables.{Table}
-use Rattle.table_apply.specs.declared.applied.Applied.{Applied}
 use Rattle.table_apply.specs.Effects.{applied_at}
 use Rattle.table_apply.specs.Runs.{change_at, table_at}
-use Rattle.table_log.specs.declared.results.Viewed.{Viewed}
 use Rattle.table_log.specs.Fitting.{changes_of, log_fits, input_fits}
 
 pub record LogState : Type 0 where

@@ -11,11 +11,7 @@ pub use laws::{
     tables_follow_from_a_prefix,
 };
 pub use log::TableLog;
-pub use results::{Results, Viewed};
 
 pub mod fitting;
 pub mod laws;
 pub mod log;
-pub mod results;
-#[cfg(test)]
-mod tests;

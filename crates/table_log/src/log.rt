@@ -8,15 +8,14 @@ ghost use Rattle.table_log.specs.Fitting.{fits, changes_of};
 ghost use Rattle.table_log.specs.Logs.{table_of, begun_log, restarted, may_take, log_step, with_proposed, result_at, acted_once, caught_up, viewed};
 
 use crate::fitting::message_fits;
-use crate::results::{Results, Viewed};
-use contract_types::{Change, TableConfig, TableState};
+use contract_types::{Applied, Change, Results, TableConfig, TableState, Viewed};
 use memory::OutOfMemory;
 use raft_node::{LOG_LIMIT, ProposeRefused, RaftInput, RaftKept, RaftNode};
 use raft_vote::{Log, RaftEntry, RaftMessage};
 use region_map::{NodeId, NodeSet, StepRefused};
 use std::alloc::Global;
 use std::marker::Model;
-use table_apply::{Applied, apply};
+use table_apply::apply;
 
 /// The log of a table at one node, and the table that follows from it.
 ///

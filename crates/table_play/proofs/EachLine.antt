@@ -11,12 +11,12 @@ use Rattle.exec_types.specs.declared.input.Input.{Input}
 use Rattle.exec_types.specs.declared.input.Input.TheVariants as input
 use Rattle.node_core.specs.declared.journal.Entry.{Entry}
 use Rattle.node_core.specs.Step.{ends_numbers}
-use Rattle.run_laws.specs.declared.envelope.Envelope.{Envelope}
-use Rattle.world_core.specs.declared.push_refused.PushRefused.{PushRefused}
-use Rattle.world_core.specs.declared.push_refused.PushRefused.TheVariants.{NoSuchNode, NotYours, Down, Up, OpKnown, JournalFull}
-use Rattle.run_laws.specs.Run.{message_at, requests, is_requested, brought, state, entry_of, suits}
-use Rattle.world_core.specs.Waiting.{is_waiting, may_flow, is_flowing, first_from, waiting}
-use Rattle.world_core.specs.World.{names_nodes, owner_refusal, message_refusal, up_refusal, op_refusal, input_refusal, entries_refusal, weight_refusal, made_refusal, event_refusal, most_entries, most_weight, total_weight}
+use Rattle.world_core.specs.runs.declared.envelope.Envelope.{Envelope}
+use Rattle.world_steps.specs.declared.push_refused.PushRefused.{PushRefused}
+use Rattle.world_steps.specs.declared.push_refused.PushRefused.TheVariants.{NoSuchNode, NotYours, Down, Up, OpKnown, JournalFull}
+use Rattle.world_core.specs.runs.Run.{message_at, requests, is_requested, brought, state, entry_of, suits}
+use Rattle.world_steps.specs.Waiting.{is_waiting, may_flow, is_flowing, first_from, waiting}
+use Rattle.world_steps.specs.World.{names_nodes, owner_refusal, message_refusal, up_refusal, op_refusal, input_refusal, entries_refusal, weight_refusal, made_refusal, event_refusal, most_entries, most_weight, total_weight}
 use Rattle.script_text.specs.declared.script.ScriptWord.{ScriptWord}
 use Rattle.script_text.specs.declared.script.ScriptWord.TheVariants.{Request, GiveUp, See, Crash, Restart, Tick, Deliver, Lose, LoseBetween, Flush, Settle}
 use Rattle.script_text.specs.declared.script.ScriptItem.{ScriptItem}

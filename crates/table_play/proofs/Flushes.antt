@@ -9,8 +9,8 @@ use Rattle.contract_types.specs.Setup.{SetupState}
 use Rattle.contract_types.specs.declared.limits.Which.{Which}
 use Rattle.exec_types.specs.declared.input.Input.{Input}
 use Rattle.exec_types.specs.declared.input.Input.TheVariants as input
-use Rattle.run_laws.specs.Run.{message_at}
-use Rattle.world_core.specs.Waiting.{waiting}
+use Rattle.world_core.specs.runs.Run.{message_at}
+use Rattle.world_steps.specs.Waiting.{waiting}
 use Rattle.script_text.specs.declared.script.ScriptItem.{ScriptItem}
 use Rattle.script_text.specs.Sound.{fits_table}
 use Rattle.table_play.specs.Play.{Played, is_over, with_down, play_arrival, flush_next, flush_by, most_deliveries, play_tick, play_ticks, play_round, play_rounds, play_word, play_items}

@@ -8,16 +8,16 @@ use Rattle.contract_types.specs.Setup.{SetupState}
 use Rattle.exec_types.specs.declared.input.Input.{Input}
 use Rattle.exec_types.specs.declared.input.Input.TheVariants as input
 use Rattle.node_core.specs.declared.journal.Entry.{Entry}
-use Rattle.run_laws.specs.declared.envelope.Envelope.{Envelope}
-use Rattle.world_core.specs.declared.push_refused.PushRefused.{PushRefused}
-use Rattle.world_core.specs.declared.push_refused.PushRefused.TheVariants as refused
-use Rattle.run_laws.specs.Run.{message_at, entry_of, state}
-use Rattle.world_core.specs.Waiting.{waiting}
-use Rattle.world_core.specs.World.{event_refusal}
+use Rattle.world_core.specs.runs.declared.envelope.Envelope.{Envelope}
+use Rattle.world_steps.specs.declared.push_refused.PushRefused.{PushRefused}
+use Rattle.world_steps.specs.declared.push_refused.PushRefused.TheVariants as refused
+use Rattle.world_core.specs.runs.Run.{message_at, entry_of, state}
+use Rattle.world_steps.specs.Waiting.{waiting}
+use Rattle.world_steps.specs.World.{event_refusal}
 use Rattle.script_text.specs.declared.script.ScriptWord.{ScriptWord}
 use Rattle.script_text.specs.declared.script.ScriptWord.TheVariants.{Request, GiveUp, See, Crash, Restart, Tick, Deliver, Lose, LoseBetween, Flush, Settle}
 use Rattle.script_text.specs.declared.script.ScriptItem.{ScriptItem}
-use Rattle.world_core.specs.World.{WorldState}
+use Rattle.world_steps.specs.World.{WorldState}
 use Rattle.table_play.specs.Steps.{HasPartOf}
 use Rattle.table_play.specs.Play.{Played, is_over, with_down, refused_as, play_event, play_arrival, play_delivery, play_loss, only_of, flush_next, flush_by, play_flush, play_tick, play_ticks, play_round, play_rounds, most_deliveries, play_word, play_items}
 

@@ -3,3 +3,4 @@ pub mod EachLine
 pub mod Flushes
 pub mod Grows
 pub mod Outcomes
+pub mod Texts

@@ -3,7 +3,7 @@ use Rattle.std.proofs.Common.{◌≡◌, ◌≤◌, ℕ, false, List, [], ◌++�
 use Rattle.contract_types.specs.Setup.{SetupState, IsSetup}
 use Rattle.contract_types.specs.declared.counts.Counts.{Counts}
 use Rattle.exec_types.specs.declared.outcome.Outcome.TheVariants.{NoMajority}
-use Rattle.write_dispatch.specs.Dispatch.{are_majorities}
+use Rattle.world_core.specs.runs.write_dispatch.Dispatch.{are_majorities}
 use Rattle.node_core.specs.declared.journal.Entry.{Entry}
 use Rattle.node_core.specs.Journal.{JournalState}
 use Rattle.script_text.specs.declared.status.Status.{Status}
@@ -14,12 +14,12 @@ use Rattle.contract_types.specs.declared.limits.Which.{Which}
 use Rattle.register_laws.specs.declared.operation.OpId.{OpId}
 use Rattle.report_text.specs.declared.ending.Refusal.{Refusal}
 use Rattle.report_text.specs.Report.{report, joined}
-use Rattle.run_laws.specs.Run.{IsRun}
-use Rattle.run_laws.specs.Answers.{answers_to}
-use Rattle.run_laws.specs.Story.{IsRegisterStory, answer, story}
-use Rattle.run_laws.proofs.Once.{once_answered}
-use Rattle.run_laws.proofs.OnceGivenUp.{given_up_short}
-use Rattle.run_laws.proofs.AllStories.{run_stories}
+use Rattle.world_core.specs.runs.Run.{IsRun}
+use Rattle.world_core.specs.runs.Answers.{answers_to}
+use Rattle.world_core.specs.runs.Story.{IsRegisterStory, answer, story}
+use Rattle.answer_runs.proofs.Once.{once_answered}
+use Rattle.answer_runs.proofs.OnceGivenUp.{given_up_short}
+use Rattle.world_core.proofs.path_runs.AllStories.{run_stories}
 use Rattle.table_play.specs.Play.{Played, play_journal, ending_of}
 use Rattle.table_play.specs.Steps.{played_by}
 use Rattle.table_play.specs.Headline.{Ends, Wants, WantsUnsaid, Says, plays, status_of, IsRunFrom, IsRunJournal}

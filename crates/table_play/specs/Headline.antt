@@ -5,7 +5,7 @@ use Rattle.contract_types.specs.declared.limits.Which.TheVariants.{ScriptBytes}
 use Rattle.line_io.specs.Bytes.{Gives, Appends, IsAtEnd}
 use Rattle.line_io.specs.Counts.{rose}
 use Rattle.contract_types.specs.Setup.{SetupState, IsSetup}
-use Rattle.run_laws.specs.Run.{IsRun}
+use Rattle.world_core.specs.runs.Run.{IsRun}
 use Rattle.node_core.specs.declared.journal.Entry.{Entry}
 use Rattle.node_core.specs.Journal.{JournalState, empty_journal}
 use Rattle.script_text.specs.declared.status.Status.{Status}

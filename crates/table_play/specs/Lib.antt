@@ -3,3 +3,4 @@ pub mod Lines
 pub mod Play
 pub mod Steps
 pub mod Whole
+pub mod Words

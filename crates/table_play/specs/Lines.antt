@@ -7,11 +7,11 @@ use Rattle.contract_types.specs.Setup.{SetupState}
 use Rattle.contract_types.specs.declared.limits.Which.TheVariants.{JournalEntries, JournalWeight, Numbers}
 use Rattle.exec_types.specs.declared.input.Input.{Input}
 use Rattle.exec_types.specs.declared.input.Input.TheVariants as input
-use Rattle.run_laws.specs.declared.envelope.Envelope.{Envelope}
+use Rattle.world_core.specs.runs.declared.envelope.Envelope.{Envelope}
 use Rattle.node_core.specs.Step.{ends_numbers}
-use Rattle.run_laws.specs.Run.{brought, state, message_at, entry_of, suits}
-use Rattle.world_core.specs.Waiting.{waiting}
-use Rattle.world_core.specs.World.{most_entries, most_weight, total_weight}
+use Rattle.world_core.specs.runs.Run.{brought, state, message_at, entry_of, suits}
+use Rattle.world_steps.specs.Waiting.{waiting}
+use Rattle.world_steps.specs.World.{most_entries, most_weight, total_weight}
 use Rattle.script_text.specs.declared.script.ScriptWord.{ScriptWord}
 use Rattle.script_text.specs.declared.script.ScriptWord.TheVariants.{Request, GiveUp, See, Crash, Restart, Tick, Deliver, Lose, LoseBetween, Flush, Settle}
 use Rattle.script_text.specs.declared.script.ScriptItem.{ScriptItem}

@@ -9,12 +9,12 @@ use Rattle.contract_types.specs.declared.limits.Which.TheVariants.{ScriptBytes, 
 use Rattle.exec_types.specs.declared.input.Input.{Input}
 use Rattle.exec_types.specs.declared.input.Input.TheVariants as input
 use Rattle.node_core.specs.declared.journal.Entry.{Entry}
-use Rattle.run_laws.specs.declared.envelope.Envelope.{Envelope}
-use Rattle.world_core.specs.declared.push_refused.PushRefused.{PushRefused}
-use Rattle.world_core.specs.declared.push_refused.PushRefused.TheVariants as refused
-use Rattle.run_laws.specs.Run.{message_at, entry_of, state}
-use Rattle.world_core.specs.Waiting.{waiting, waiting_between}
-use Rattle.world_core.specs.World.{event_refusal, most_entries, most_weight}
+use Rattle.world_core.specs.runs.declared.envelope.Envelope.{Envelope}
+use Rattle.world_steps.specs.declared.push_refused.PushRefused.{PushRefused}
+use Rattle.world_steps.specs.declared.push_refused.PushRefused.TheVariants as refused
+use Rattle.world_core.specs.runs.Run.{message_at, entry_of, state}
+use Rattle.world_steps.specs.Waiting.{waiting, waiting_between}
+use Rattle.world_steps.specs.World.{event_refusal, most_entries, most_weight}
 use Rattle.script_text.specs.declared.script.ScriptWord.{ScriptWord}
 use Rattle.script_text.specs.declared.script.ScriptWord.TheVariants.{Request, GiveUp, See, Crash, Restart, Tick, Deliver, Lose, LoseBetween, Flush, Settle}
 use Rattle.script_text.specs.declared.script.ScriptItem.{ScriptItem}

@@ -7,7 +7,7 @@ use Rattle.exec_types.specs.declared.input.Input.{Input}
 use Rattle.exec_types.specs.declared.input.Input.TheVariants.{Request, GiveUp, See, Tick, Deliver, Crash, Restart}
 use Rattle.report_text.specs.declared.ending.EventRefused.TheVariants.{Down}
 use Rattle.report_text.specs.declared.ending.Refusal.{Refusal}
-use Rattle.world_core.specs.World.{WorldState}
+use Rattle.world_steps.specs.World.{WorldState}
 use Rattle.table_play.specs.Play.{Played, with_refusal}
 
 abbrev pub played_by : List Entry → List ℕ → List OpId → List Refusal → Option Which → Played

@@ -2,7 +2,7 @@
 ghost use Rattle.std.specs.Prelude.{◌≡◌, ◌<◌, ◌++◌, ◌∷◌, [], ℕ, List, None, true, false, nat_lt, IfOk, OnOk, OnErr};
 ghost use Rattle.std.specs.List.{list_all};
 ghost use Rattle.node_core.specs.declared.journal.Entry.{Entry};
-ghost use Rattle.run_laws.specs.Run.{message_at};
+ghost use Rattle.world_core.specs.runs.Run.{message_at};
 ghost use Rattle.script_text.specs.Sound.{fits_table, fits_only};
 ghost use Rattle.table_play.specs.Play.{is_over, play_event, play_arrival, play_delivery, play_loss, play_flush, play_tick, play_ticks, play_round, play_rounds, play_word, play_items, only_of};
 ghost use Rattle.table_play.specs.Steps.{played_by, played_at, HasPartOf, asked_in, down_as};
@@ -15,7 +15,8 @@ use register_laws::OpId;
 use report_text::{EventRefused, Refusal};
 use script_text::{ScriptItem, ScriptWord};
 use std::alloc::Global;
-use world_core::{LoseRefused, PushRefused, World};
+use world_core::World;
+use world_steps::{LoseRefused, PushRefused};
 
 /// Says that an event of a line did nothing, and why.
 fn refuse(line: u64, reason: EventRefused, refused: &mut Vec<Refusal>) -> Result<(), OutOfMemory>

@@ -5,15 +5,19 @@ ghost use Rattle.node_core.specs.Journal.{empty_journal};
 ghost use Rattle.script_text.specs.Lines.{Accepted, read_lines};
 ghost use Rattle.script_text.specs.Sound.{fits_table};
 ghost use Rattle.report_text.specs.Report.{report, joined};
-ghost use Rattle.run_laws.specs.Answers.{answers_to};
-ghost use Rattle.run_laws.specs.GivenUp.{IsGivenUp};
-ghost use Rattle.run_laws.specs.Served.{IsNotServed};
-ghost use Rattle.write_dispatch.specs.Dispatch.{are_majorities};
-ghost use Rattle.run_laws.specs.Story.{IsRegisterStory, answer, story};
+ghost use Rattle.world_core.specs.runs.Answers.{answers_to};
+ghost use Rattle.world_core.specs.runs.GivenUp.{IsGivenUp};
+ghost use Rattle.world_core.specs.runs.Served.{IsNotServed};
+ghost use Rattle.world_core.specs.runs.write_dispatch.Dispatch.{are_majorities};
+ghost use Rattle.world_core.specs.runs.DonePoints.{Took};
+ghost use Rattle.world_core.specs.runs.Story.{IsRegisterStory, answer, points, story};
+ghost use Rattle.world_core.specs.runs.StoryOrder.{IsStoryInOrder};
+ghost use Rattle.region_map.specs.declared.id.Id.{Id};
+ghost use Rattle.register_laws.specs.declared.operation.Reply.{Reply};
 ghost use Rattle.contract_types.specs.Setup.{SetupState};
 ghost use Rattle.register_laws.specs.declared.operation.OpId.{OpId};
 ghost use Rattle.contract_types.specs.declared.counts.Counts.{Counts};
-ghost use Rattle.exec_types.specs.declared.outcome.Outcome.TheVariants.{NotServing, NoMajority};
+ghost use Rattle.exec_types.specs.declared.outcome.Outcome.TheVariants.{Done, NotServing, NoMajority};
 ghost use Rattle.table_play.specs.Play.{ending_of, number_of};
 ghost use Rattle.table_play.specs.Headline.{is_command, IsPlay, IsRunJournal, Ends, Wants, WantsUnsaid, Says, outcome_of_script, plays, status_of};
 
@@ -30,7 +34,8 @@ use report_text::{
 };
 use script_text::{Script, ScriptRefused, Status, read_script};
 use std::alloc::Global;
-use world_core::{MOST_ENTRIES, MOST_WEIGHT, World};
+use world_core::World;
+use world_steps::{MOST_ENTRIES, MOST_WEIGHT};
 
 /// The most bytes of a script.
 const MOST_SCRIPT_BYTES: u64 = 16_777_216;
@@ -222,6 +227,10 @@ pub fn play<S: Source, K: Sink>(
     ensures run { IsRunJournal journal.new }
     ensures stories { (setup : SetupState) (key : List ℕ) → journal.new.setup ≡ Some setup
         → IsRegisterStory setup journal.new.past key (story setup journal.new.past key) }
+    ensures story_order { (setup : SetupState) (key : List ℕ) → journal.new.setup ≡ Some setup
+        → IsStoryInOrder setup journal.new.past key }
+    ensures done_points { (setup : SetupState) (op : OpId) (reply : Reply) (branch : Id) (timestamp : ℕ) → journal.new.setup ≡ Some setup
+        → answer journal.new.past op ≡ Some (Done reply branch timestamp) → Took (points journal.new.past) op branch timestamp }
     ensures not_serving_only { (setup : SetupState) (op : OpId) → journal.new.setup ≡ Some setup
         → answer journal.new.past op ≡ Some NotServing → IsNotServed setup journal.new.past op }
     ensures not_serving_always { (setup : SetupState) (op : OpId) → journal.new.setup ≡ Some setup

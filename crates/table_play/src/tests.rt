@@ -1,5 +1,6 @@
 //! Worked scripts, from their bytes to their reports.
 use crate::play::play;
+use journal_story::story::story;
 use line_io::{MemorySink, MemorySource};
 use memory::OutOfMemory;
 use node_core::Journal;
@@ -8,7 +9,6 @@ use register_laws::{Reply, Told};
 use std::alloc::Global;
 use std::process::Abort;
 use std::test::Fail;
-use world_core::story::story;
 
 /// Plays a script from memory to memory; the calls of these numbers of the source and of the sink fail (0: none).
 fn outcome(

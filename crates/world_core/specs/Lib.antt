@@ -1,5 +1,1 @@
-pub mod Done
-pub mod Pairs
-pub mod Telling
-pub mod Waiting
-pub mod World
+pub use Rattle.path_runs.specs.runs as runs

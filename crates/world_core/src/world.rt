@@ -3,26 +3,26 @@ ghost use Rattle.std.specs.Prelude.{◌≡◌, ℕ, List, ◌∷◌, ◌++◌, �
 ghost use Rattle.std.specs.List.{list_all};
 ghost use Rattle.contract_types.specs.Setup.{IsSetup};
 ghost use Rattle.node_core.specs.declared.journal.Entry.{Entry};
-ghost use Rattle.run_laws.specs.Run.{IsRun, message_at, entry_of};
-ghost use Rattle.run_laws.specs.Story.{IsRegisterStory, story};
-ghost use Rattle.world_core.specs.Waiting.{waiting, waiting_between};
-ghost use Rattle.world_core.specs.World.{push_refusal, after_refusal, receiver_of, is_up};
+ghost use Rattle.path_runs.specs.runs.Run.{IsRun, message_at, entry_of};
+ghost use Rattle.path_runs.specs.runs.Story.{IsRegisterStory, story};
+ghost use Rattle.path_runs.specs.runs.StoryOrder.{IsStoryInOrder};
+ghost use Rattle.world_steps.specs.Waiting.{waiting, waiting_between};
+ghost use Rattle.world_steps.specs.World.{push_refusal, after_refusal, receiver_of, is_up};
 
-use crate::envelope::find;
-use crate::flowing::first_in;
-use crate::parts::{begin_nodes, is_up, refusal, stop_waiting, take};
-use crate::waiting_sets::WaitingSets;
-use crate::{LoseRefused, PushRefused};
 use contract_types::Setup;
 use exec_types::Input;
 use memory::OutOfMemory;
 use node_core::{Journal, Node};
 use region_map::{NodeId, NodeSet};
 use register_laws::OpId;
-use run_laws::Envelope;
 use std::alloc::Global;
 use std::collections::BTreeSet;
 use std::marker::Model;
+use world_steps::envelope::find;
+use world_steps::flowing::first_in;
+use world_steps::parts::{begin_nodes, is_up, refusal, stop_waiting, take};
+use world_steps::waiting_sets::WaitingSets;
+use world_steps::{Envelope, LoseRefused, PushRefused};
 
 /// All nodes of a table, with every message that was sent and the journal of their steps.
 #[derive(Drop)]
@@ -42,7 +42,7 @@ pub struct World {
 }
 
 impl Model for World {
-    ghost use Rattle.world_core.specs.World.{WorldState, IsWorld};
+    ghost use Rattle.world_steps.specs.World.{WorldState, IsWorld};
 
     ghost Value = { WorldState };
 
@@ -58,6 +58,7 @@ impl World {
         ensures run { IfOk result (λ world. IsRun world.setup world.past) }
         ensures stories { IfOk result (λ world. (key : List ℕ)
             → IsRegisterStory world.setup world.past key (story world.setup world.past key)) }
+        ensures story_order { IfOk result (λ world. (key : List ℕ) → IsStoryInOrder world.setup world.past key) }
     {
         let _config = setup.config();
         let nodes = begin_nodes(alloc, &setup)?;
@@ -77,7 +78,7 @@ impl World {
     }
 
     /// A node is given an input, and steps. The result is the place of the entry in the journal. Whether the event is
-    /// taken or not, the journal is a run, and each key's story is a register story of it.
+    /// taken or not, the journal is a run, and each key's story is a register story of it, told in the order of the path.
     pub fn push(&mut self, alloc: Global, node: NodeId, input: Input) -> Result<u64, PushRefused>
         ensures taken { OnOk result (push_refusal self.old node input ≡ None) }
         ensures entry { OnOk result (self.new
@@ -89,6 +90,7 @@ impl World {
         ensures run { IsRun self.new.setup self.new.past }
         ensures stories { (key : List ℕ)
             → IsRegisterStory self.new.setup self.new.past key (story self.new.setup self.new.past key) }
+        ensures story_order { (key : List ℕ) → IsStoryInOrder self.new.setup self.new.past key }
     {
         let _config = self.setup.config();
         if let Some(why) = self.ended {

@@ -1,26 +1,21 @@
 -- Later acks, and earlier timestamps.
-use Rattle.std.proofs.Common.{◌≡◌, ◌==◌, ℕ, zero, suc, ◌*◌, ◌<◌, ◌≤◌, Bool, true, false, cond, ◌&&◌, ◌||◌, nat_lt, List, [], ◌∷◌, length, count_by, Option, Some, None, option_map, slice_set, slice_index_or, refl, sym, ap, ◌∙◌, subst, arith}
+use Rattle.std.proofs.Common.{◌≡◌, ◌==◌, ℕ, ◌*◌, ◌<◌, ◌≤◌, true, false, cond, ◌&&◌, ◌||◌, nat_lt, List, [], length, Option, Some, None, option_map, slice_set, refl, sym, ap, ◌∙◌, subst, arith}
 use Rattle.std.proofs.lemmas.Bool.{cond_both, and_parts, and_from, eqb-true, eqb-false, ltb-true, ltb-false, lt-ltb, false≢true}
 use Rattle.std.proofs.lemmas.Bool.Decides.{nat_tests}
 use lib.ListN.{replicate}
-use Rattle.std.proofs.lemmas.List.{get_or-replicate, get_or-set_same, get_or-set_other}
-use Rattle.std.proofs.lemmas.List.Sums.{sum_by-le-sum_by}
+use Rattle.std.proofs.lemmas.List.{get_or-replicate, get_or-set_same, get_or-set_other, get_or_past}
+use Rattle.list_laws.proofs.Counts.{more_pass}
 use Rattle.contract_types.specs.declared.contract.Contract.{Contract}
 use Rattle.write_dispatch.specs.declared.decided.KeptAck.{KeptAck}
 use Rattle.write_dispatch.specs.Dispatch.{Acks, no_acks, ack_of, exceeds, with_ack, reaches, is_counted, counted_of, is_temp_majority, is_decided}
 use Rattle.write_dispatch.specs.Later.{keeps_pace}
-
-get_or-past : {X : Type 0} (xs : List X) (n : ℕ) (d : X) → length xs ≤ n → slice_index_or xs n d ≡ d
-get_or-past [] n d h = refl
-get_or-past (x ∷ xs) zero d h = absurd (omega arith)
-get_or-past (x ∷ xs) (suc n) d h = get_or-past xs n d (omega arith)
 
 pub no_acks-none : (server : ℕ) → ack_of no_acks server ≡ None
 unfolding no_acks
 no_acks-none server =
     elim (nat_lt server 64) as (λ c. nat_lt server 64 ≡ c → ack_of (replicate 64 None) server ≡ None) [
       | true ↦ λ e. get_or-replicate 64 server None None (ltb-true _ _ e)
-      | false ↦ λ e. get_or-past (replicate 64 None) server None (ltb-false _ _ e)
+      | false ↦ λ e. get_or_past (replicate 64 None) server None (ltb-false _ _ e)
     ] refl
 
 pub no_acks-length : length no_acks ≡ 64
@@ -58,7 +53,7 @@ within : (acks : Acks) (server since moment : ℕ) → reaches (ack_of acks serv
 within acks server since moment r =
     elim (nat_lt server (length acks)) as (λ c. nat_lt server (length acks) ≡ c → server < length acks) [
       | true ↦ λ e. ltb-true _ _ e
-      | false ↦ λ e. absurd (false≢true (ap (λ kept. reaches kept since moment) (sym (get_or-past acks server None (ltb-false _ _ e))) ∙ r))
+      | false ↦ λ e. absurd (false≢true (ap (λ kept. reaches kept since moment) (sym (get_or_past acks server None (ltb-false _ _ e))) ∙ r))
     ] refl
 
 own-later : (acks : Acks) (server view at since moment : ℕ) → keeps_pace view at (ack_of acks server) ≡ true → reaches (ack_of acks server) since moment ≡ true → reaches (ack_of (with_ack acks server view at) server) since moment ≡ true
@@ -83,12 +78,6 @@ counted-later acks server view at since me moment counted k r =
     ] r
 
 -- ---- counts
-
--- where each member that passes one test passes another, no fewer pass it
-more_pass : (p q : ℕ → Bool) (set : List ℕ) → ((n : ℕ) → p n ≡ true → q n ≡ true) → count_by p set ≤ count_by q set
-more_pass p q set h =
-    sum_by-le-sum_by (λ n. cond (p n) 1 0) (λ n. cond (q n) 1 0) set
-    (λ n. elim (p n) as (λ c. p n ≡ c → cond c 1 0 ≤ cond (q n) 1 0) [ true ↦ λ e. let yes : q n ≡ true = h n e in rw yes (omega arith) | false ↦ λ _. omega arith ] refl)
 
 pub count-later : (acks : Acks) (server view at since me moment : ℕ) (set : List ℕ) → keeps_pace view at (ack_of acks server) ≡ true → counted_of acks since me moment set ≤ counted_of (with_ack acks server view at) since me moment set
 count-later acks server view at since me moment set k =

@@ -1,8 +1,9 @@
 -- What waits, after one more and after one is taken.
-use Rattle.std.proofs.Common.{◌≡◌, ℕ, zero, suc, ◌+◌, ◌<◌, ◌≤◌, true, false, cond, not, nat_lt, List, [], ◌∷◌, ◌++◌, length, take, drop, remove, slice_get, position, Some, None, refl, sym, ap, ◌∙◌, subst, arith}
+use Rattle.std.proofs.Common.{◌≡◌, ℕ, suc, ◌+◌, ◌<◌, ◌≤◌, true, false, cond, not, nat_lt, List, [], ◌∷◌, ◌++◌, length, take, drop, remove, slice_get, position, Some, None, refl, sym, ap, ◌∙◌, subst, arith}
 use Rattle.std.specs.List.{position_or_len}
 use Rattle.std.proofs.lemmas.Bool.{and_parts, and_from, ltb-true, ltb-false}
 use Rattle.std.proofs.lemmas.List.{drop-drop, drop-take, drop-append-le, length-take-le}
+use Rattle.std.proofs.lemmas.Option.{slice_get_past}
 use Rattle.register_laws.specs.declared.operation.OpId.{OpId}
 use Rattle.write_dispatch.specs.declared.decided.Decided.{Decided}
 use Rattle.write_dispatch.specs.Dispatch.{is_of, pending_of, without_op, all_below, all_above, is_rising}
@@ -29,7 +30,7 @@ is_rising-push (e ∷ es) d h k =
     let below = and_parts (nat_lt e.at d.at) (all_below d.at es) k in
     and_from _ _ (all_above-push e.at es d parts.0 below.0) (is_rising-push es d parts.1 below.1)
 
-all_above-without_op : (at : ℕ) (ds : List Decided) (op : OpId) → all_above at ds ≡ true → all_above at (without_op ds op) ≡ true
+pub all_above-without_op : (at : ℕ) (ds : List Decided) (op : OpId) → all_above at ds ≡ true → all_above at (without_op ds op) ≡ true
 all_above-without_op at [] op h = refl
 all_above-without_op at (e ∷ es) op h =
     let parts = and_parts (nat_lt at e.at) (all_above at es) h in
@@ -81,15 +82,10 @@ place_found ds op i e =
       | false ↦ λ l s. absurd (cc)
     ] refl e
 
-slice_get-end : {X : Type 0} (xs : List X) (n : ℕ) → length xs ≤ n → slice_get xs n ≡ None
-slice_get-end [] n h = refl
-slice_get-end (x ∷ xs) zero h = absurd (omega arith)
-slice_get-end (x ∷ xs) (suc n) h = slice_get-end xs n (omega arith)
-
 pub place_missing : (ds : List Decided) (op : OpId) → position (λ (d : Decided). is_of op d.op) ds ≡ None → pending_of ds op ≡ None
 unfolding place
 place_missing ds op e =
     elim (nat_lt (place op ds) (length ds)) as (λ c. nat_lt (place op ds) (length ds) ≡ c → cond c (Some (place op ds)) None ≡ None → pending_of ds op ≡ None) [
       | true ↦ λ l s. absurd (cc)
-      | false ↦ λ l s. sym (slice_get-place ds op) ∙ slice_get-end ds (place op ds) (ltb-false _ _ l)
+      | false ↦ λ l s. sym (slice_get-place ds op) ∙ slice_get_past ds (place op ds) (ltb-false _ _ l)
     ] refl e

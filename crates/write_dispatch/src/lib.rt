@@ -19,6 +19,4 @@ pub mod decided;
 pub mod laws;
 pub mod pending;
 pub mod refused;
-#[cfg(test)]
-mod tests;
 mod waiting;

@@ -21,7 +21,7 @@ returns-else-not-index-clause-ok g c =
     let is = up_read c.args.up.now.items c.args.node.0 c.index.result.now (omega (arith, below, ups)) c.index.ensures c.if-not-index.false in
     on_ok c.tick_in.result _ _ _ _ c.tick_in.ensures.nodes c.tick_in.ensures.sent c.tick_in.ensures.goes
     (λ a b e.
-    tick_is g.E.RaftEntry.noop_entry c.args.count c.args.nodes.now.items c.args.up.now.items c.args.sent.now.items c.args.node below r.states_are r.ups_are c.in-Tick.unseen _ _ is e a b
+    tick_is g.E.RaftEntry.noop_entry c.args.count c.args.nodes.now.items c.args.up.now.items c.args.sent.now.items c.args.node below r.states_are c.in-Tick.unseen _ _ is e a b
     ∙ ap (λ event. happens c.args.count g.E.RaftEntry.noop_entry (world_in c.args.count c.args.nodes.now.items c.args.up.now.items c.args.sent.now.items) (c.args.node, event)) (sym c.in-Tick.is))
 
 pub returns-else-not-index-3-clause-ok : goal.returns-else-not-index-3-clause-ok
@@ -32,5 +32,5 @@ returns-else-not-index-3-clause-ok g c =
     let is = up_read c.args.up.now.items c.args.node.0 c.index-in-Deliver.result.now (omega (arith, below, ups)) c.index-in-Deliver.ensures c.if-not-index-3.false in
     on_ok c.deliver_in.result _ _ _ _ c.deliver_in.ensures.comes c.deliver_in.ensures.comes c.deliver_in.ensures.goes
     (λ a b e.
-    arrives_is g.E.RaftEntry.noop_entry c.args.count c.args.nodes.now.items c.args.up.now.items c.args.sent.now.items c.args.node below r.states_are r.ups_are c.in-Deliver.number _ _ is _ refl e a
+    arrives_is g.E.RaftEntry.noop_entry c.args.count c.args.nodes.now.items c.args.up.now.items c.args.sent.now.items c.args.node below r.states_are c.in-Deliver.number _ _ is _ refl e a
     ∙ ap (λ event. happens c.args.count g.E.RaftEntry.noop_entry (world_in c.args.count c.args.nodes.now.items c.args.up.now.items c.args.sent.now.items) (c.args.node, event)) (sym c.in-Deliver.is))

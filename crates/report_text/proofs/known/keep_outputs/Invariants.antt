@@ -1,8 +1,9 @@
 use Rattle.std.proofs.Common.{◌≡◌, ℕ, drop}
 use Rattle.std.specs.Ordering.{nat_cmp}
 use Rattle.std.specs.BTreeMap.{get}
-use Rattle.run_laws.specs.Story.{answer_in}
-use Rattle.report_text.specs.Known.{all_answered, or_answered, op_of}
+use Rattle.journal_story.specs.runs.Story.{answer_in}
+use Rattle.journal_story.specs.Done.{op_of}
+use Rattle.report_text.specs.Known.{all_answered, or_answered}
 use Rattle.report_text.proofs.known.keep_outputs.Given as goal
 
 -- with the answers that are left, it comes to those of all

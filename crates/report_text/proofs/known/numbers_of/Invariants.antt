@@ -1,7 +1,7 @@
 use Rattle.std.proofs.Common.{◌≡◌, ◌||◌, ℕ, drop}
 use Rattle.std.specs.Ordering.{nat_cmp}
 use Rattle.std.specs.BTreeSet.{contains}
-use Rattle.report_text.specs.Known.{op_of}
+use Rattle.journal_story.specs.Done.{op_of}
 use Rattle.report_text.specs.Report.{is_down}
 use Rattle.report_text.proofs.known.numbers_of.Given as goal
 

@@ -1,5 +1,5 @@
 use Rattle.std.proofs.Common.{◌≡◌, ℕ, List, ◌++◌, drop}
-use Rattle.run_laws.specs.Story.{points_in}
+use Rattle.journal_story.specs.runs.Story.{points_in}
 use Rattle.report_text.specs.Stories.{text_at, points_text}
 use Rattle.report_text.proofs.stories.tell_outputs.Given as goal
 

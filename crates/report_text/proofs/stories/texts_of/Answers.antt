@@ -1,6 +1,6 @@
 use Rattle.std.proofs.Common.{ap, sym, ◌∙◌, List, take, reverse}
 use Rattle.node_core.specs.declared.journal.Entry.{Entry}
-use Rattle.run_laws.specs.Story.{points}
+use Rattle.journal_story.specs.runs.Story.{points}
 use Rattle.report_text.specs.Stories.{text_at, points_text}
 use Rattle.report_text.proofs.Lists.{reverse-more_read}
 use Rattle.report_text.proofs.Telling.{tell-entry}

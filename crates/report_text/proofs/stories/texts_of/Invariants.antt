@@ -1,5 +1,5 @@
 use Rattle.std.proofs.Common.{◌≡◌, ℕ, List, take, reverse}
-use Rattle.run_laws.specs.Story.{points}
+use Rattle.journal_story.specs.runs.Story.{points}
 use Rattle.report_text.specs.Stories.{text_at, points_text}
 use Rattle.report_text.proofs.stories.texts_of.Given as goal
 

@@ -2,8 +2,8 @@
 use Rattle.std.proofs.Common.{◌≡◌, ◌+◌, ◌-◌, ℕ, Option, Some, None, refl, sym, ap, ◌∙◌, subst}
 use Rattle.contract_types.specs.Setup.{SetupState}
 use Rattle.contract_types.specs.declared.limits.Which.{Which}
-use Rattle.run_laws.specs.Run.{message_at}
-use Rattle.world_core.specs.Waiting.{waiting}
+use Rattle.world_core.specs.runs.Run.{message_at}
+use Rattle.world_steps.specs.Waiting.{waiting}
 use Rattle.table_play.specs.Play.{Played, is_over, play_arrival, flush_by, most_deliveries}
 use Rattle.table_play.specs.Steps.{played_at, HasPartOf}
 use Rattle.table_play.proofs.Grows.{on_err, keeps_part, flush_adds}

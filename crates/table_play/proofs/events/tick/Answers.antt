@@ -4,7 +4,7 @@ use Rattle.std.specs.Result.{IfOk}
 use Rattle.std.proofs.lemmas.Bool.{and_parts}
 use Rattle.contract_types.specs.declared.limits.Which.{Which}
 use Rattle.exec_types.specs.declared.input.Input.TheVariants.{Tick}
-use Rattle.run_laws.specs.Run.{state}
+use Rattle.world_core.specs.runs.Run.{state}
 use Rattle.table_play.specs.Play.{Played, play_event}
 use Rattle.table_play.specs.Steps.{played_at}
 use Rattle.table_play.proofs.events.tick.Goals as goal

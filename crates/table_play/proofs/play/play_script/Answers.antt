@@ -1,6 +1,6 @@
 use Rattle.std.proofs.Common.{◌≡◌, ◌⊎◌, List, [], Some, None, sym, ap, ◌∙◌, subst, inr}
 use Rattle.node_core.specs.Journal.{JournalState}
-use Rattle.world_core.specs.World.{WorldState}
+use Rattle.world_steps.specs.World.{WorldState}
 use Rattle.script_text.specs.declared.status.Status.TheVariants as status
 use Rattle.script_text.specs.Lines.{Accepted}
 use Rattle.std.specs.List.{list_all}

@@ -1,7 +1,7 @@
 -- The node that is stored is as the journal gives it.
 use Rattle.std.proofs.Common.{◌<◌, ap, ◌∙◌, arith}
-use Rattle.world_core.specs.World.{WorldState}
-use Rattle.world_core.proofs.States.{up_told}
+use Rattle.world_steps.specs.World.{WorldState}
+use Rattle.world_steps.proofs.States.{up_told}
 use Rattle.world_core.proofs.world.World.is_up.Goals as goal
 
 pub returns-then-node-nodes : goal.returns-then-node-nodes

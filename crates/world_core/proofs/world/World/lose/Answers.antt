@@ -1,11 +1,11 @@
 -- A message that was sent and is marked lost waits no longer.
 use Rattle.std.proofs.Common.{◌≡◌, ◌==◌, ◌&&◌, not, List, true, is_some, sym, ap, ◌∙◌}
 use Rattle.std.specs.Prelude.{Option}
-use Rattle.run_laws.specs.declared.envelope.Envelope.{Envelope}
-use Rattle.run_laws.specs.Run.{numbered}
-use Rattle.world_core.specs.Waiting.{is_between}
-use Rattle.world_core.specs.Pairs.{pair_has}
-use Rattle.world_core.proofs.States.{IsInStep-lost}
+use Rattle.path_runs.specs.runs.declared.envelope.Envelope.{Envelope}
+use Rattle.path_runs.specs.runs.Run.{numbered}
+use Rattle.world_steps.specs.Waiting.{is_between}
+use Rattle.world_steps.specs.Pairs.{pair_has}
+use Rattle.world_steps.proofs.States.{IsInStep-lost}
 use Rattle.world_core.proofs.world.World.lose.Goals as goal
 
 pub invariant_of-self-2 : goal.invariant_of-self-2

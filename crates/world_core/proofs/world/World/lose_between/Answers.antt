@@ -1,8 +1,8 @@
 -- The whole set of the pair is lost.
 use Rattle.std.proofs.Common.{◌≡◌, ◌<◌, ◌++◌, List, ℕ, sym, ap, ◌∙◌, subst}
-use Rattle.world_core.specs.Waiting.{waiting_between}
-use Rattle.world_core.specs.World.{WorldState}
-use Rattle.world_core.proofs.Least.{IsInStep-between, lost_between}
+use Rattle.world_steps.specs.Waiting.{waiting_between}
+use Rattle.world_steps.specs.World.{WorldState}
+use Rattle.world_steps.proofs.Least.{IsInStep-between, lost_between}
 use Rattle.world_core.proofs.world.World.lose_between.Goals as goal
 
 pub invariant_of-self-2 : goal.invariant_of-self-2

@@ -7,17 +7,22 @@ use Rattle.contract_types.specs.Setup.{SetupState}
 use Rattle.exec_types.specs.declared.input.Input.{Input}
 use Rattle.node_core.specs.declared.journal.Entry.{Entry}
 use Rattle.node_core.specs.Journal.{JournalState}
-use Rattle.world_core.specs.declared.push_refused.PushRefused.{PushRefused}
-use Rattle.world_core.specs.declared.push_refused.PushRefused.TheVariants.{NoSuchNode, OutOfMemory}
-use Rattle.run_laws.specs.Run.{IsRun, entry_of}
-use Rattle.run_laws.specs.Story.{IsRegisterStory, story}
-use Rattle.world_core.specs.World.{WorldState, IsInStep, names_nodes, input_refusal, entries_refusal, entry_refusal, made_refusal, event_refusal, push_refusal, unless_ended}
-use Rattle.run_laws.proofs.AllStories.{run_stories}
-use Rattle.world_core.proofs.States.{within_table, length_states, push_refused, goes_on}
+use Rattle.world_steps.specs.declared.push_refused.PushRefused.{PushRefused}
+use Rattle.world_steps.specs.declared.push_refused.PushRefused.TheVariants.{NoSuchNode, OutOfMemory}
+use Rattle.path_runs.specs.runs.Run.{IsRun, entry_of}
+use Rattle.path_runs.specs.runs.Story.{IsRegisterStory, story}
+use Rattle.path_runs.specs.runs.StoryOrder.{IsStoryInOrder}
+use Rattle.world_steps.specs.World.{WorldState, IsInStep, names_nodes, input_refusal, entries_refusal, entry_refusal, made_refusal, event_refusal, push_refusal, unless_ended}
+use Rattle.path_runs.proofs.AllStories.{run_stories}
+use Rattle.path_runs.proofs.StoryOrder.{story_in_order}
+use Rattle.world_steps.proofs.States.{within_table, length_states, push_refused, goes_on}
 use Rattle.world_core.proofs.world.World.push.Goals as goal
 
 abbrev HaveStories : SetupState → List Entry → Type 0
 HaveStories setup past = (key : List ℕ) → IsRegisterStory setup past key (story setup past key)
+
+abbrev HaveOrder : SetupState → List Entry → Type 0
+HaveOrder setup past = (key : List ℕ) → IsStoryInOrder setup past key
 
 -- a run with its next entry
 grown : (setup : SetupState) (old new : JournalState) (node : NodeId) (input : Input) → new ≡ record old { past = entry_of setup old.past node input ∷ old.past }
@@ -51,6 +56,10 @@ pub returns-in-Some-clause-stories : goal.returns-in-Some-clause-stories
 returns-in-Some-clause-stories c =
     subst (λ (w : WorldState). HaveStories w.setup w.past) c.self.view_is (run_stories c.self.inside.setup c.config-config.ensures.setup c.self.inside.journal.past c.self.invariant.run)
 
+pub returns-in-Some-clause-story_order : goal.returns-in-Some-clause-story_order
+returns-in-Some-clause-story_order c =
+    subst (λ (w : WorldState). HaveOrder w.setup w.past) c.self.view_is (story_in_order c.self.inside.setup c.config-config.ensures.setup c.self.inside.journal.past c.self.invariant.run)
+
 pub returns-in-Some-refusal-clause-refused : goal.returns-in-Some-refusal-clause-refused
 returns-in-Some-refusal-clause-refused c =
     let w = c.self.inside in
@@ -62,6 +71,10 @@ returns-in-Some-refusal-clause-refused c =
 pub returns-in-Some-refusal-clause-stories : goal.returns-in-Some-refusal-clause-stories
 returns-in-Some-refusal-clause-stories c =
     subst (λ (w : WorldState). HaveStories w.setup w.past) c.self.view_is (run_stories c.self.inside.setup c.config-config.ensures.setup c.self.inside.journal.past c.self.invariant.run)
+
+pub returns-in-Some-refusal-clause-story_order : goal.returns-in-Some-refusal-clause-story_order
+returns-in-Some-refusal-clause-story_order c =
+    subst (λ (w : WorldState). HaveOrder w.setup w.past) c.self.view_is (story_in_order c.self.inside.setup c.config-config.ensures.setup c.self.inside.journal.past c.self.invariant.run)
 
 pub returns-in-Err-clause-refused : goal.returns-in-Err-clause-refused
 returns-in-Err-clause-refused c =
@@ -75,6 +88,10 @@ returns-in-Err-clause-refused c =
 pub returns-in-Err-clause-stories : goal.returns-in-Err-clause-stories
 returns-in-Err-clause-stories c =
     subst (λ (j : JournalState). HaveStories c.self.inside.setup j.past) (sym c.in-Err.ensures.kept) (run_stories c.self.inside.setup c.config-config.ensures.setup c.self.inside.journal.past c.self.invariant.run)
+
+pub returns-in-Err-clause-story_order : goal.returns-in-Err-clause-story_order
+returns-in-Err-clause-story_order c =
+    subst (λ (j : JournalState). HaveOrder c.self.inside.setup j.past) (sym c.in-Err.ensures.kept) (story_in_order c.self.inside.setup c.config-config.ensures.setup c.self.inside.journal.past c.self.invariant.run)
 
 pub returns-in-Ok-clause-run : goal.returns-in-Ok-clause-run
 returns-in-Ok-clause-run c =
@@ -91,6 +108,15 @@ returns-in-Ok-clause-stories c =
     let e : entry_refusal w.setup w.journal.past c.args.node c.args.input ≡ None =
     sym (c.in_default-refusal.ensures.value (c.deref.ensures.value ∙ h.states_are) (c.deref-2.ensures.value ∙ h.sent_are) h.ops_are) in
     run_stories w.setup c.config-config.ensures.setup c.take.new.journal.past
+    (grown w.setup w.journal c.take.new.journal c.args.node c.args.input (c.in-Ok.ensures.entry w.setup w.lost.items h) e (c.in-Ok.ensures.taken w.setup w.lost.items h c.self.invariant.weighed) c.self.invariant.run)
+
+pub returns-in-Ok-clause-story_order : goal.returns-in-Ok-clause-story_order
+returns-in-Ok-clause-story_order c =
+    let w = c.self.inside in
+    let h : IsInStep w.setup w.journal.past w.lost.items w.nodes.items w.sent.items w.waits w.requested = c.self.invariant.in_step c.in_default.is in
+    let e : entry_refusal w.setup w.journal.past c.args.node c.args.input ≡ None =
+    sym (c.in_default-refusal.ensures.value (c.deref.ensures.value ∙ h.states_are) (c.deref-2.ensures.value ∙ h.sent_are) h.ops_are) in
+    story_in_order w.setup c.config-config.ensures.setup c.take.new.journal.past
     (grown w.setup w.journal c.take.new.journal c.args.node c.args.input (c.in-Ok.ensures.entry w.setup w.lost.items h) e (c.in-Ok.ensures.taken w.setup w.lost.items h c.self.invariant.weighed) c.self.invariant.run)
 
 pub invariant_of-self : goal.invariant_of-self

@@ -1,9 +1,9 @@
 -- The least number in the sets of pairs that may flow is the least message that does.
 use Rattle.std.proofs.Common.{◌≡◌, ap, ◌∙◌, nat_lt, true, sym, subst}
 use Rattle.std.specs.List.{list_all}
-use Rattle.world_core.specs.World.{WorldState}
-use Rattle.world_core.specs.Waiting.{waiting}
-use Rattle.world_core.proofs.Least.{waiting_is}
+use Rattle.world_steps.specs.World.{WorldState}
+use Rattle.world_steps.specs.Waiting.{waiting}
+use Rattle.world_steps.proofs.Least.{waiting_is}
 use Rattle.world_core.proofs.world.World.waiting.Goals as goal
 
 pub returns : goal.returns

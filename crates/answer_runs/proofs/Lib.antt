@@ -1,0 +1,9 @@
+pub mod AnswerPoints
+pub mod Once
+pub mod OnceGivenUp
+pub mod OnceWaits
+pub mod Refusals
+pub mod ServedAsking
+pub mod ServedCounts
+pub mod ServedLaws
+pub mod ServedTenures

@@ -1,0 +1,3 @@
+pub use Rattle.step_runs.specs.runs as runs
+pub mod Done
+pub mod Telling

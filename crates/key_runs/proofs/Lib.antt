@@ -1,0 +1,13 @@
+pub mod Keyed
+pub mod KeyedFacts
+pub mod KeyedLaws
+pub mod KeyedNodes
+pub mod KeyedOuts
+pub mod KeyedRequests
+pub mod KeyedRoles
+pub mod KeyedRuns
+pub mod KeyedStarts
+pub mod KeyedSteps
+pub mod KeyedStory
+pub mod Refused
+pub mod Requesting

@@ -1,0 +1,14 @@
+pub mod Contracts
+pub mod Elections
+pub mod Example
+pub mod Held
+pub mod Holding
+pub mod Keeping
+pub mod Leading
+pub mod Lives
+pub mod Majorities
+pub mod Paths
+pub mod Quorums
+pub mod Staying
+pub mod Syncs
+pub mod Times

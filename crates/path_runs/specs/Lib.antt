@@ -1,0 +1,1 @@
+pub use Rattle.id_runs.specs.runs as runs

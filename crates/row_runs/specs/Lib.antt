@@ -1,0 +1,1 @@
+pub use Rattle.path_runs.specs.runs as runs

@@ -1,0 +1,1 @@
+pub use Rattle.runs.specs as runs

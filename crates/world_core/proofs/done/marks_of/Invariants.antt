@@ -1,6 +1,0 @@
-use Rattle.std.proofs.Common.{take, reverse}
-use Rattle.world_core.specs.Done.{MarksAnswers}
-use Rattle.world_core.proofs.done.marks_of.Given as goal
-
-abbrev pub invariant-loop-entry : goal.invariant-loop-entry
-invariant-loop-entry l = MarksAnswers l.marks (reverse (take l.entry-index l.entries))

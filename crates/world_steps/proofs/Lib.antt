@@ -1,0 +1,4 @@
+pub mod Least
+pub mod Pairs
+pub mod States
+pub mod Waits
