@@ -1,5 +1,5 @@
-//! What one step of a node does: the only place that opens the step. Each law is of every state, input and brought
-//! message, and knows no run.
+//! What one step of a node does, for laws of runs that open no step themselves. Each law is of every state, input and
+//! brought message, and knows no run.
 ghost use Rattle.std.specs.Prelude.{Option};
 ghost use Rattle.list_laws.specs.Members.{IsIn};
 ghost use Rattle.region_map.specs.declared.id.NodeId.{NodeId};
