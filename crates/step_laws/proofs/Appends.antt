@@ -34,7 +34,7 @@ use Rattle.runs.specs.exec_types.declared.input.Input.TheVariants.{Tick, Deliver
 use Rattle.runs.specs.exec_types.declared.message.Message.TheVariants.{Say}
 use Rattle.runs.specs.node_core.declared.node.Brought.{Brought}
 use Rattle.runs.specs.node_core.Step.{NodeState, Stepped, silent, propose_one, propose_all, coordinates, with_proposals, tick_row, leads, take_say, ack_fits, is_well_formed, brought_row, node_step}
-use Rattle.step_laws.proofs.Grown.{Grows, entry_of, proposed_grows, one_grows, all_grow, leader_ticks, ended_raft, ended_acks}
+use Rattle.step_laws.proofs.Grown.{Grows, entry_of, proposed_log, one_grows, all_grow, leader_ticks, ended_raft, ended_acks}
 
 -- ---- what is appended
 
@@ -54,11 +54,10 @@ appended_first : (log : LogState) (c : Change) (cs : List Change) → fits log.c
 appended_first log c cs fit =
     cond_both (fits log.config.hashes c && not (is_full log.raft.log)) (with_proposed log c) log (λ (l : LogState). IsAppended log (propose_all l cs) (entry_of log c))
     (λ _.
-    let g = proposed_grows log c in
     let later = all_grow (with_proposed log c) cs in
     record {
       rest = (entry_of log c ∷ []) ++ later.rest;
-      is = later.log ∙ ap (λ (l : List (LogEntry Change)). l ++ later.rest) g.log ∙ append_assoc log.raft.log (entry_of log c ∷ []) later.rest;
+      is = later.log ∙ ap (λ (l : List (LogEntry Change)). l ++ later.rest) (proposed_log log c) ∙ append_assoc log.raft.log (entry_of log c ∷ []) later.rest;
       has = inl (inl refl);
     })
     (λ none.

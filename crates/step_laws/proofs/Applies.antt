@@ -112,8 +112,8 @@ module _ (s : NodeState) (f : Following) (stands : StandsThere s.versions f) whe
 
   has_row : (part : Part) → 0 < s.versions.hashes → f.position < timestamp_of part
       → HasRow (advanced_rows (effect_of part) f.region f.branch (timestamp_of part) s.versions s.rows) (advanced_map f.region f.branch (timestamp_of part) s.versions).hashes f part
-  has_row (Write at key row) some above i =
-      row_there at key row some above (ap (λ n. has_key f.region n key) (sym (advanced_map_hashes f.region f.branch at s.versions)) ∙ i)
+  has_row (Write at key row) some above =
+      λ i. row_there at key row some above (ap (λ n. has_key f.region n key) (sym (advanced_map_hashes f.region f.branch at s.versions)) ∙ i)
   has_row (Sync at) some above = tt
 
 -- ---- the step

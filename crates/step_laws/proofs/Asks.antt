@@ -37,8 +37,8 @@ flat_there f (z ∷ zs) x y i j =
       | inr there ↦ IsIn-right (f z) (flat_map f zs) y (flat_there f zs x y there j)
     ]
 
-asks_once : (c : Contract) (current : Pieced Id) (versions : Pieced Version) (as : List Asking) (a : Asking) → IsIn as a → a.contract.id ≡ c.id
-    → ((b : Asking) → IsIn as b → b.contract.id ≡ c.id → b ≡ a) → asking_ack c current versions as ≡ Some (needs_branch a current versions)
+asks_once : (c : Contract) (current : Pieced Id) (versions : Pieced Version) (askings : List Asking) (a : Asking) → IsIn askings a → a.contract.id ≡ c.id
+    → ((b : Asking) → IsIn askings b → b.contract.id ≡ c.id → b ≡ a) → asking_ack c current versions askings ≡ Some (needs_branch a current versions)
 asks_once c current versions [] a i own once = absurd i
 asks_once c current versions (b ∷ bs) a i own once =
     cond_both (is_asking_under c b) (Some (needs_branch b current versions)) (asking_ack c current versions bs) (λ (o : Option Ack). o ≡ Some (needs_branch a current versions))

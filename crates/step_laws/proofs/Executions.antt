@@ -28,13 +28,12 @@ use Rattle.runs.specs.node_core.Parts.{Requested, is_for, dispatched, passed_on,
 use Rattle.runs.specs.node_core.Starting.{Starting, place_of, placed, due, start_one, start_each}
 use Rattle.runs.specs.node_core.Step.{NodeState, Stepped, silent, leads, coordinates, propose_all, tick_row, message_row, is_well_formed, brought_row, input_row, act_on, act, node_step}
 
--- each row of an execution keeps this, and what starts has it
+-- each row of an execution but the last one keeps this, and what starts has it
 pub record IsKeptBy (P : Execution → Type 0) : Type 0 where
   pub request : (x : Execution) (rows : Rows) (versions : Pieced Version) (op : OpId) (key : List ℕ) (what : Op) → P x → P (dispatch_row x rows versions op key what).execution
   pub give_up : (x : Execution) (op : OpId) → P x → P (give_up_row x op)
   pub got : (x : Execution) (from : NodeId) (got : Got) → P x → P (got_row x from got)
   pub start : (a : Asking) (me : NodeId) (initial : ℕ) → P (started a me initial)
-  pub decide : (x : Execution) → P x → P (decided x)
 
 module _ (P : Execution → Type 0) (keeps : IsKeptBy P) where
   abbrev All : List Execution → Type 0
@@ -97,5 +96,5 @@ module _ (P : Execution → Type 0) (keeps : IsKeptBy P) where
   pub all_acted : (s : NodeState) (input : Input) (b : Option Brought) → All s.executions → All (act (input_row s input b)).node.executions
   all_acted s input b h = all_act (input_row s input b) (viewed (input_row s input b).node.log) (all_row s input b h)
 
-  pub all_step : (s : NodeState) (input : Input) (b : Option Brought) → All s.executions → All (node_step s input b).node.executions
-  all_step s input b h = all_map P P decided (act (input_row s input b)).node.executions keeps.decide (all_acted s input b h)
+  pub all_step : ((x : Execution) → P x → P (decided x)) → (s : NodeState) (input : Input) (b : Option Brought) → All s.executions → All (node_step s input b).node.executions
+  all_step decide s input b h = all_map P P decided (act (input_row s input b)).node.executions decide (all_acted s input b h)

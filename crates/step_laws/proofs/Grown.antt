@@ -1,5 +1,5 @@
 -- What a tick does to the log of a node: entries come to its end, if any.
-use Rattle.std.proofs.Common.{◌≡◌, ◌≤◌, ℕ, true, false, cond, ◌&&◌, not, max, List, [], ◌∷◌, ◌++◌, length, take, Option, Some, None, refl, sym, ap, ◌∙◌, append-nil, append_assoc}
+use Rattle.std.proofs.Common.{◌≡◌, ◌≤◌, ℕ, ◌+◌, true, false, cond, ◌&&◌, not, max, List, [], ◌∷◌, ◌++◌, length, take, Option, Some, None, refl, sym, ap, ◌∙◌, append-nil, append_assoc}
 use Rattle.std.proofs.lemmas.Bool.{cond_both}
 use Rattle.std.proofs.lemmas.List.{take-append-le}
 use Rattle.list_laws.specs.Members.{IsIn}
@@ -58,9 +58,12 @@ advanced_log t = cond_both (is_leader t.votes.role) (record t { view = max t.vie
 advanced_votes : (t : RaftState Change) → (advanced t).votes ≡ t.votes
 advanced_votes t = cond_both (is_leader t.votes.role) (record t { view = max t.view (decided t.votes t.log t.peers) }) t (λ (u : RaftState Change). u.votes ≡ t.votes) (λ _. refl) (λ _. refl)
 
-pub proposed_grows : (log : LogState) (change : Change) → Grows log (with_proposed log change)
+pub proposed_log : (log : LogState) (change : Change) → (with_proposed log change).raft.log ≡ log.raft.log ++ entry_of log change ∷ []
+proposed_log log change = advanced_log (with_entry log.raft change)
+
+proposed_grows : (log : LogState) (change : Change) → Grows log (with_proposed log change)
 proposed_grows log change =
-    record { rest = entry_of log change ∷ []; log = advanced_log (with_entry log.raft change); votes = advanced_votes (with_entry log.raft change); config = refl; acted = refl }
+    record { rest = entry_of log change ∷ []; log = proposed_log log change; votes = advanced_votes (with_entry log.raft change); config = refl; acted = refl }
 
 pub one_grows : (log : LogState) (change : Change) → Grows log (propose_one log change)
 one_grows log change =

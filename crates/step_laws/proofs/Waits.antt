@@ -4,6 +4,7 @@ use Rattle.std.proofs.lemmas.Bool.{cond_both, and_parts, and_from, both_ways, lt
 use Rattle.std.proofs.lemmas.List.Sums.{length-filter}
 use Rattle.std.specs.List.{AllByRecursion, slice_index_or}
 use Rattle.list_laws.specs.Members.{IsIn}
+use Rattle.list_laws.proofs.Counts.{more_pass}
 use Rattle.list_laws.proofs.Members.{IsIn-left, IsIn-right, IsIn-append, IsIn-map, all_member}
 use Rattle.runs.specs.region_map.declared.id.Id.{Id}
 use Rattle.runs.specs.region_map.declared.id.NodeId.{NodeId}
@@ -53,8 +54,10 @@ tells_is None since at = refl
 tells_is (Some kept) since at = refl
 
 count_same : (p q : ℕ → Bool) → ((n : ℕ) → p n ≡ q n) → (xs : List ℕ) → count_by p xs ≡ count_by q xs
-count_same p q same [] = refl
-count_same p q same (x ∷ xs) = ap₂ (λ (b : Bool) (n : ℕ). cond b 1 0 + n) (same x) (count_same p q same xs)
+count_same p q same xs =
+    let a = more_pass p q xs (λ n e. sym (same n) ∙ e) in
+    let b = more_pass q p xs (λ n e. same n ∙ e) in
+    omega (arith, a, b)
 
 half_is : (p q : ℕ → Bool) → ((n : ℕ) → p n ≡ q n) → (set : List ℕ) → more_than_half p set ≡ nat_lt (length set) (2 * count_by q set)
 half_is p q same set =
@@ -66,7 +69,7 @@ half_of_is : (p q : ℕ → Bool) → ((n : ℕ) → p n ≡ q n) → (set : Opt
 half_of_is p q same None = refl
 half_of_is p q same (Some set) = half_is p q same set
 
-majorities_are : (x : Execution) (at : ℕ) → has_majorities x at ≡ is_decided x.dispatch.acks x.contract x.me.0 at
+pub majorities_are : (x : Execution) (at : ℕ) → has_majorities x at ≡ is_decided x.dispatch.acks x.contract x.me.0 at
 majorities_are x at =
     let q : ℕ → Bool = is_counted x.dispatch.acks x.contract.since x.me.0 at in
     let same : (n : ℕ) → stands_at x at n ≡ q n = λ n. ap (λ b. (n == x.me.0) || b) (tells_is (slice_index_or x.dispatch.acks n None) x.contract.since at) in
@@ -161,15 +164,17 @@ order_kept =
             rising = ap is_rising same.waiting ∙ h.rising;
           };
       start = λ a me initial. record { taken = and_from (nat_lt (initial + 1) (initial + 1 + 1)) true (lt-ltb (initial + 1) (initial + 1 + 1) (omega arith)) refl; rising = refl };
-      decide = λ x h.
-          record {
-            taken = undecided_below x.dispatch.acks x.contract x.me.0 (x.last + 1) x.dispatch.waiting h.taken;
-            rising = undecided_rising x.dispatch.acks x.contract x.me.0 x.dispatch.waiting h.rising;
-          };
+    }
+
+order_decided : (x : Execution) → WaitsInOrder x → WaitsInOrder (decided x)
+order_decided x h =
+    record {
+      taken = undecided_below x.dispatch.acks x.contract x.me.0 (x.last + 1) x.dispatch.waiting h.taken;
+      rising = undecided_rising x.dispatch.acks x.contract x.me.0 x.dispatch.waiting h.rising;
     }
 
 pub order_stays : (s : NodeState) (input : Input) (brought : Option Brought) → AllWaitInOrder s.executions → AllWaitInOrder (node_step s input brought).node.executions
-order_stays s input brought h = all_step WaitsInOrder order_kept s input brought h
+order_stays s input brought h = all_step WaitsInOrder order_kept order_decided s input brought h
 
 pub none_left : (s : NodeState) (input : Input) (brought : Option Brought) → AllWaitInOrder s.executions → (x : Execution) (d : Decided) → IsIn (node_step s input brought).node.executions x → IsIn x.dispatch.waiting d
     → has_majorities x d.at ≡ false
@@ -384,14 +389,16 @@ dispatch_waits x xs rows versions q op key k what branch at i =
         | inl e ↦
             let same_op : q ≡ op = cc in
             let same_branch : x.branch ≡ branch = cc in
-            let same_at : x.last + 1 ≡ at = cc in
-            (reply, record {
-              execution = (dispatch_row x rows versions q key what).execution;
-              there = inl refl;
-              writes = same_branch;
-              waits = IsIn-right x.dispatch.waiting (record { op = Some q; at = x.last + 1; reply = reply } ∷ []) (record { op = Some op; at = at; reply = reply })
-                  (inl (ap₂ (λ (o : OpId) (n : ℕ). record { op = Some o; at = n; reply = reply }) same_op same_at));
-            })
+            let same_at : x.last + 1 ≡ at = cc in (
+              reply,
+              record {
+                execution = (dispatch_row x rows versions q key what).execution;
+                there = inl refl;
+                writes = same_branch;
+                waits = IsIn-right x.dispatch.waiting (record { op = Some q; at = x.last + 1; reply = reply } ∷ []) (record { op = Some op; at = at; reply = reply })
+                    (inl (ap₂ (λ (o : OpId) (n : ℕ). record { op = Some o; at = n; reply = reply }) same_op same_at));
+              },
+            )
         | inr none ↦ absurd none
       ]
     ]
