@@ -1,9 +1,9 @@
 -- A leader at the end of its log appends what is planned, and keeps what it is told.
-use Rattle.std.proofs.Common.{◌≡◌, ◌≤◌, ◌<◌, ℕ, ◌+◌, ◌==◌, Bool, true, false, cond, ◌&&◌, not, nat_lt, nat_le, List, [], ◌∷◌, ◌++◌, length, drop, Option, Some, None, refl, sym, ap, ◌∙◌, subst, inl, inr, ◌⊎◌, arith, eq-eqb, append_assoc, length-append}
+use Rattle.std.proofs.Common.{◌≡◌, ◌≤◌, ◌<◌, ℕ, ◌+◌, ◌==◌, Bool, true, false, cond, ◌&&◌, not, nat_lt, List, [], ◌∷◌, ◌++◌, length, drop, Option, Some, refl, sym, ap, ◌∙◌, subst, inl, inr, ◌⊎◌, arith, eq-eqb, append_assoc, length-append}
 use Rattle.std.proofs.Math.Seq.{drop-append_seam}
-use Rattle.std.proofs.lemmas.Bool.{cond_both, and_from, lt-ltb, leb-true, both_ways}
+use Rattle.std.proofs.lemmas.Bool.{cond_both, and_from, lt-ltb, leb-true}
 use Rattle.list_laws.specs.Members.{IsIn}
-use Rattle.list_laws.proofs.Members.{IsIn-left, IsIn-right}
+use Rattle.list_laws.proofs.Members.{IsIn-right}
 use Rattle.runs.specs.region_map.declared.id.Id.{Id}
 use Rattle.runs.specs.region_map.declared.id.NodeId.{NodeId}
 use Rattle.runs.specs.region_map.Equal.{same_id}

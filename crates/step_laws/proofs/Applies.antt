@@ -1,6 +1,6 @@
 -- A secondary applies the next part of its session.
-use Rattle.std.proofs.Common.{◌≡◌, ◌≤◌, ◌<◌, ℕ, ◌+◌, ◌==◌, Bool, true, false, cond, ◌&&◌, nat_lt, nat_le, List, [], ◌∷◌, Option, Some, None, refl, sym, ap, ap₂, ◌∙◌, subst, inl, inr, arith, eq-eqb, sum}
-use Rattle.std.proofs.lemmas.Bool.{cond_both, and_parts, and_from, lt-ltb, both_ways, eqb-true}
+use Rattle.std.proofs.Common.{◌≡◌, ◌<◌, ℕ, ◌+◌, ◌==◌, true, false, cond, ◌&&◌, nat_lt, nat_le, List, [], ◌∷◌, Some, None, refl, sym, ap, ap₂, ◌∙◌, subst, inl, inr, arith, eq-eqb, sum}
+use Rattle.std.proofs.lemmas.Bool.{cond_both, and_parts, and_from, lt-ltb, both_ways}
 use Rattle.std.proofs.lemmas.Bool.Decides.{nat_tests}
 use Rattle.std.proofs.Math.Nat.{mod-lt}
 use Rattle.list_laws.specs.Members.{IsIn}
@@ -30,7 +30,7 @@ use Rattle.runs.specs.table_log.Logs.{viewed, results}
 use Rattle.runs.specs.secondary_exec.declared.following.Following.{Following}
 use Rattle.runs.specs.secondary_exec.Stream.{FollowingStep, acknowledgement, applied, is_next, is_ours, quiet, apply_part, take_part, stream_row}
 use Rattle.runs.specs.node_core.declared.node.Brought.{Brought}
-use Rattle.runs.specs.node_core.Parts.{Streamed, taken, left_alone, stream_all, decide_all, decide_all_outs}
+use Rattle.runs.specs.node_core.Parts.{Streamed, taken, left_alone, stream_all, decide_all_outs}
 use Rattle.runs.specs.node_core.Step.{NodeState, Stepped, silent, take_stream, is_well_formed, brought_row, act_on, act, decide_step, node_step}
 use Rattle.step_laws.specs.Follows.{StandsThere, HasRow, after_part, IsApplied}
 use Rattle.list_laws.proofs.Members.{IsIn-left}

@@ -1,5 +1,5 @@
 -- A primary that waits for its branch asks for it at each tick.
-use Rattle.std.proofs.Common.{◌≡◌, ◌≤◌, ℕ, ◌==◌, true, false, cond, List, [], ◌∷◌, ◌++◌, length, Option, Some, None, refl, sym, ap, ◌∙◌, subst, inl, inr, eq-eqb}
+use Rattle.std.proofs.Common.{◌≡◌, ◌≤◌, true, cond, List, [], ◌∷◌, ◌++◌, length, Option, Some, refl, sym, ap, ◌∙◌, subst, inl, inr, eq-eqb}
 use Rattle.std.proofs.lemmas.Bool.{cond_both, both_ways}
 use Rattle.std.specs.List.{flat_map}
 use Rattle.list_laws.specs.Members.{IsIn}
@@ -23,7 +23,7 @@ use Rattle.runs.specs.exec_types.declared.output.Output.TheVariants.{Message}
 use Rattle.runs.specs.primary_exec.declared.asking.Asking.{Asking}
 use Rattle.runs.specs.primary_exec.Execution.{needs_branch}
 use Rattle.runs.specs.node_core.declared.node.Brought.{Brought}
-use Rattle.runs.specs.node_core.Saying.{Roles, is_asking_under, or_ack, asking_ack, execution_ack, waiting_ack, following_ack, ack_under, says_to, acknowledges, says_under, says_all}
+use Rattle.runs.specs.node_core.Saying.{Roles, is_asking_under, or_ack, asking_ack, execution_ack, waiting_ack, following_ack, ack_under, says_to, acknowledges, says_under}
 use Rattle.runs.specs.node_core.Starting.{current_of}
 use Rattle.runs.specs.node_core.Step.{NodeState, coordinates, propose_all, with_proposals, roles_of, says_now, tick_log, tick_row, node_step}
 use Rattle.step_laws.specs.Outs.{AsksFor}

@@ -1,8 +1,7 @@
 -- What a step does to the executions of a node, one by one.
-use Rattle.std.proofs.Common.{◌≡◌, ℕ, ◌+◌, true, false, cond, nat_lt, List, [], ◌∷◌, ◌++◌, map, filter, Option, Some, None, refl, sym, ap, subst, inl, inr}
+use Rattle.std.proofs.Common.{ℕ, cond, nat_lt, List, [], ◌∷◌, Option, Some, None}
 use Rattle.std.proofs.lemmas.Bool.{cond_both}
 use Rattle.std.specs.List.{AllByRecursion}
-use Rattle.list_laws.specs.Members.{IsIn}
 use Rattle.list_laws.proofs.All.{all_map}
 use Rattle.runs.specs.region_map.declared.id.NodeId.{NodeId}
 use Rattle.runs.specs.region_map.Maps.{Pieced}

@@ -1,5 +1,5 @@
 -- What a tick does to the log of a node: entries come to its end, if any.
-use Rattle.std.proofs.Common.{◌≡◌, ◌≤◌, ℕ, ◌+◌, true, false, cond, ◌&&◌, not, max, List, [], ◌∷◌, ◌++◌, length, take, Option, Some, None, refl, sym, ap, ◌∙◌, append-nil, append_assoc}
+use Rattle.std.proofs.Common.{◌≡◌, ◌≤◌, ℕ, ◌+◌, true, cond, ◌&&◌, not, max, List, [], ◌∷◌, ◌++◌, length, take, Option, Some, None, refl, sym, ap, ◌∙◌, append-nil, append_assoc}
 use Rattle.std.proofs.lemmas.Bool.{cond_both}
 use Rattle.std.proofs.lemmas.List.{take-append-le}
 use Rattle.list_laws.specs.Members.{IsIn}
@@ -14,15 +14,14 @@ use Rattle.runs.specs.raft_append.Commit.{decided}
 use Rattle.runs.specs.raft_append.Peers.{reset_to}
 use Rattle.runs.specs.raft_node.declared.input.RaftInput.TheVariants.{Tick}
 use Rattle.runs.specs.raft_node.State.{RaftState}
-use Rattle.runs.specs.raft_node.Rows.{RaftStepped, is_full, append_all, with_entry, won, elected, elect_row, tick_row, advanced, raft_step, proposed}
+use Rattle.runs.specs.raft_node.Rows.{RaftStepped, is_full, append_all, with_entry, won, elected, elect_row, tick_row, advanced, raft_step}
 use Rattle.runs.specs.contract_types.declared.change.Change.{Change}
 use Rattle.runs.specs.contract_types.declared.change.Change.TheVariants.{Noop}
 use Rattle.runs.specs.contract_types.declared.results.Viewed.{Viewed as Results}
-use Rattle.runs.specs.contract_types.Tables.{Table}
 use Rattle.runs.specs.coordinator.Proposals.{proposals_of, after_proposals}
 use Rattle.runs.specs.exec_types.declared.output.Output.{Output}
 use Rattle.runs.specs.exec_types.declared.output.Output.TheVariants.{Viewed}
-use Rattle.runs.specs.table_log.Fitting.{changes_of, fits}
+use Rattle.runs.specs.table_log.Fitting.{fits}
 use Rattle.runs.specs.table_log.Logs.{LogState, table_of, with_proposed, viewed}
 use Rattle.runs.proofs.table_log.Prefixes.{same_entries}
 use Rattle.runs.specs.node_core.Parts.{decide_all_outs}

@@ -1,5 +1,5 @@
 -- What a step dispatches and refuses: what its request asks for, once.
-use Rattle.std.proofs.Common.{◌≡◌, ℕ, ◌+◌, true, false, cond, List, [], ◌∷◌, ◌++◌, map, filter, Option, Some, None, refl, sym, ap, ◌∙◌, inl, inr, subst, append-nil}
+use Rattle.std.proofs.Common.{◌≡◌, ℕ, ◌+◌, true, false, cond, List, [], ◌∷◌, ◌++◌, map, filter, Option, Some, None, refl, ap, ◌∙◌, inl, inr, append-nil}
 use Rattle.std.proofs.lemmas.Bool.{cond_both, both_ways}
 use Rattle.list_laws.specs.Members.{IsIn}
 use Rattle.runs.specs.region_map.declared.id.Id.{Id}
@@ -11,7 +11,6 @@ use Rattle.runs.specs.contract_types.declared.contract.Contract.{Contract}
 use Rattle.runs.specs.contract_types.declared.results.Viewed.{Viewed as Results}
 use Rattle.runs.specs.exec_types.declared.input.Input.TheVariants.{Request}
 use Rattle.runs.specs.exec_types.declared.message.Part.{Part}
-use Rattle.runs.specs.exec_types.declared.outcome.Outcome.{Outcome}
 use Rattle.runs.specs.exec_types.declared.outcome.Outcome.TheVariants.{Done, NotServing, NoMajority}
 use Rattle.runs.specs.exec_types.declared.output.Output.{Output}
 use Rattle.runs.specs.exec_types.declared.output.Output.TheVariants.{Message, Dispatched, Viewed, Answer}
@@ -24,7 +23,7 @@ use Rattle.runs.specs.primary_exec.Execution.{Execution, has_room, sends, part_o
 use Rattle.runs.specs.node_core.declared.node.Brought.{Brought}
 use Rattle.runs.specs.node_core.Parts.{Requested, is_for, dispatched, passed_on, request_all, decide_all_outs}
 use Rattle.runs.specs.node_core.Step.{NodeState, Stepped, request_row, act_on, act, end_step, node_step}
-use Rattle.step_laws.specs.Outs.{dispatched_in, refused_before, refused_in}
+use Rattle.step_laws.specs.Outs.{dispatched_in, refused_in}
 
 -- what outputs dispatch and refuse
 pub record Says (outs : List Output) (ops : List (OpId × List ℕ)) (refused : List OpId) : Type 0 where

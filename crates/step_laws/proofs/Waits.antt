@@ -1,8 +1,8 @@
 -- What waits at executions: what has a majority is answered, and nothing else leaves.
-use Rattle.std.proofs.Common.{◌≡◌, ◌≤◌, ◌<◌, ℕ, ◌+◌, ◌*◌, ◌==◌, Bool, true, false, cond, ◌&&◌, ◌||◌, nat_lt, nat_le, List, [], ◌∷◌, ◌++◌, map, filter, length, count_by, Option, Some, None, option_map, refl, sym, ap, ap₂, ◌∙◌, subst, inl, inr, ◌⊎◌, arith}
+use Rattle.std.proofs.Common.{◌≡◌, ◌<◌, ℕ, ◌+◌, ◌*◌, ◌==◌, Bool, true, false, cond, ◌&&◌, ◌||◌, nat_lt, List, [], ◌∷◌, ◌++◌, map, filter, length, count_by, Option, Some, None, option_map, refl, sym, ap, ap₂, ◌∙◌, subst, inl, inr, ◌⊎◌, arith}
 use Rattle.std.proofs.lemmas.Bool.{cond_both, and_parts, and_from, both_ways, ltb-true, lt-ltb, ne_eqb}
 use Rattle.std.proofs.lemmas.List.Sums.{length-filter}
-use Rattle.std.specs.List.{AllByRecursion, slice_index_or}
+use Rattle.std.specs.List.{slice_index_or}
 use Rattle.list_laws.specs.Members.{IsIn}
 use Rattle.list_laws.proofs.Counts.{more_pass}
 use Rattle.list_laws.proofs.Members.{IsIn-left, IsIn-right, IsIn-append, IsIn-map, all_member}
@@ -35,12 +35,12 @@ use Rattle.runs.specs.write_dispatch.declared.decided.Decided.{Decided}
 use Rattle.runs.specs.write_dispatch.declared.decided.KeptAck.{KeptAck}
 use Rattle.runs.specs.write_dispatch.Dispatch.{DispatchState, Acks, reaches, is_counted, is_temp_majority, is_decided, is_of, pending_of, without_op, all_below, all_above, is_rising}
 use Rattle.runs.proofs.write_dispatch.Later.{decided-earlier}
-use Rattle.runs.proofs.write_dispatch.Queue.{is_rising-push, all_above-without_op, is_rising-without_op}
-use Rattle.primary_exec.proofs.Sound.{below-push, below-next, below-without_op}
+use Rattle.runs.proofs.write_dispatch.Queue.{is_rising-push, is_rising-without_op}
+use Rattle.primary_exec.proofs.Sound.{below-push, below-without_op}
 use Rattle.runs.specs.primary_exec.declared.asking.Asking.{Asking}
 use Rattle.runs.specs.primary_exec.Execution.{Execution, started, has_room, sends, part_of, dispatch_row, is_live, with_stands, with_acked, got_row, answers, decided, decide_outs, undecided_under, answers_under, without_given_up, give_up_row}
 use Rattle.runs.specs.node_core.declared.node.Brought.{Brought}
-use Rattle.runs.specs.node_core.Parts.{Requested, is_for, dispatched, passed_on, request_all, got_all, give_up_all, decide_all, decide_all_outs}
+use Rattle.runs.specs.node_core.Parts.{Requested, is_for, dispatched, passed_on, request_all, got_all, decide_all, decide_all_outs}
 use Rattle.runs.specs.node_core.Starting.{Starting, place_of, placed, due, start_one, start_each}
 use Rattle.runs.specs.node_core.Step.{NodeState, Stepped, silent, leads, coordinates, propose_all, tick_row, message_row, is_well_formed, brought_row, input_row, act_on, act, node_step}
 use Rattle.step_laws.specs.Counting.{tells_of, stands_at, more_than_half, more_than_half_of, has_majorities, WaitsInOrder, AllWaitInOrder, StillWaits}

@@ -1,5 +1,5 @@
 -- What a step dispatches, refuses and asks for, by its outputs.
-use Rattle.std.specs.Prelude.{◌≡◌, ℕ, List, [], ◌∷◌, Option, Some}
+use Rattle.std.specs.Prelude.{◌≡◌, ℕ, List, [], ◌∷◌}
 use Rattle.list_laws.specs.Members.{IsIn}
 use Rattle.runs.specs.region_map.declared.id.Id.{Id}
 use Rattle.runs.specs.region_map.declared.id.NodeId.{NodeId}

@@ -1,5 +1,5 @@
 //! A law of a secondary's step.
-ghost use Rattle.std.specs.Prelude.{◌≡◌, ◌<◌, ◌+◌, ℕ, Option, Some};
+ghost use Rattle.std.specs.Prelude.{◌≡◌, ◌<◌, ◌+◌, ℕ, Some};
 ghost use Rattle.list_laws.specs.Members.{IsIn};
 ghost use Rattle.runs.specs.exec_types.Parts.{timestamp_of};
 ghost use Rattle.runs.specs.exec_types.declared.input.Input.TheVariants.{Deliver};

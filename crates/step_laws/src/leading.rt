@@ -1,5 +1,5 @@
 //! Laws of a leader's step.
-ghost use Rattle.std.specs.Prelude.{◌≡◌, ◌≤◌, ◌<◌, ◌⊎◌, ℕ, List, Option, Some, length, drop, true, false};
+ghost use Rattle.std.specs.Prelude.{◌≡◌, ◌≤◌, ◌<◌, ◌⊎◌, ℕ, Option, Some, length, drop, true, false};
 ghost use Rattle.list_laws.specs.Members.{IsIn};
 ghost use Rattle.runs.specs.region_map.declared.id.Id.{Id};
 ghost use Rattle.runs.specs.region_map.declared.id.NodeId.{NodeId};
