@@ -1,6 +1,6 @@
 -- What waits at the executions of a node as the row of an input and the acts of the node go over them.
-use Rattle.std.proofs.Common.{◌≡◌, ◌⊎◌, ℕ, ◌+◌, false, ◌||◌, nat_lt, List, [], ◌∷◌, ◌++◌, map, Option, Some, None, inl, inr, refl, sym, ap, ◌∙◌, subst}
-use Rattle.std.proofs.lemmas.Bool.{cond_both}
+use Rattle.std.proofs.Common.{◌≡◌, ◌⊎◌, ℕ, ◌+◌, true, false, cond, ◌||◌, nat_lt, List, [], ◌∷◌, ◌++◌, map, Option, Some, None, inl, inr, refl, sym, ap, ◌∙◌, subst}
+use Rattle.std.proofs.lemmas.Bool.{cond_both, false≢true}
 use Rattle.std.specs.List.{AllByRecursion, list_any}
 use Rattle.node_moves.specs.list_laws.Members.{IsIn}
 use Rattle.node_moves.specs.region_map.declared.id.Id.{Id}
@@ -69,6 +69,38 @@ request_cases hashes (x ∷ xs) rows versions op key what =
         result = ap (passed_on x) d.result;
       })
     ])
+
+-- ---- one execution takes a request
+
+abbrev first_for : ℕ → List ℕ → List Execution → Option Execution
+first_for hashes key [] = None
+first_for hashes key (x ∷ xs) = cond (is_for hashes key x) (Some x) (first_for hashes key xs)
+
+first_serves : (hashes : ℕ) (key : List ℕ) (before : List Execution) (x : Execution) (after : List Execution) → list_any (is_for hashes key) before ≡ false → is_for hashes key x ≡ true
+    → first_for hashes key (before ++ x ∷ after) ≡ Some x
+first_serves hashes key [] x after none has = ap (λ b. cond b (Some x) (first_for hashes key after)) has
+first_serves hashes key (y ∷ before) x after none has =
+    elim (is_for hashes key y) as (λ c. (c || list_any (is_for hashes key) before) ≡ false → cond c (Some y) (first_for hashes key (before ++ x ∷ after)) ≡ Some x) [
+      | true ↦ λ e. absurd (false≢true (sym e))
+      | false ↦ λ e. first_serves hashes key before x after e has
+    ] none
+
+none_first : (hashes : ℕ) (key : List ℕ) (xs : List Execution) → list_any (is_for hashes key) xs ≡ false → first_for hashes key xs ≡ None
+none_first hashes key [] none = refl
+none_first hashes key (x ∷ xs) none =
+    elim (is_for hashes key x) as (λ c. (c || list_any (is_for hashes key) xs) ≡ false → cond c (Some x) (first_for hashes key xs) ≡ None) [
+      | true ↦ λ e. absurd (false≢true (sym e))
+      | false ↦ λ e. none_first hashes key xs e
+    ] none
+
+serves_first : (hashes : ℕ) (key : List ℕ) (xs : List Execution) (x : Execution) → IsServing hashes key xs x → first_for hashes key xs ≡ Some x
+serves_first hashes key xs x s = ap (first_for hashes key) s.these ∙ first_serves hashes key s.before x s.after s.none_before s.has
+
+pub serves_once : (hashes : ℕ) (key : List ℕ) (xs : List Execution) (x y : Execution) → IsServing hashes key xs x → IsServing hashes key xs y → x ≡ y
+serves_once hashes key xs x y s t = let same : Some x ≡ Some y = sym (serves_first hashes key xs x s) ∙ serves_first hashes key xs y t in cc
+
+pub none_serves : (hashes : ℕ) (key : List ℕ) (xs : List Execution) (x : Execution) → list_any (is_for hashes key) xs ≡ false → IsServing hashes key xs x → ⊥
+none_serves hashes key xs x none s = let same : None ≡ Some x = sym (none_first hashes key xs none) ∙ serves_first hashes key xs x s in absurd (cc same)
 
 -- ---- what waits at an execution
 

@@ -142,16 +142,16 @@ give_up_moves s op brought =
 -- ---- ticks
 
 -- what is proposed leaves what the log began with, and how far the node acts on it
-record Same (a b : LogState) : Type 0 where
-  config : b.config ≡ a.config
-  acted : b.acted ≡ a.acted
+pub record Same (a b : LogState) : Type 0 where
+  pub config : b.config ≡ a.config
+  pub acted : b.acted ≡ a.acted
 
 proposes_one : (log : LogState) (change : Change) → Same log (propose_one log change)
 proposes_one log change =
     cond_both (fits log.config.hashes change && not (is_full log.raft.log)) (with_proposed log change) log (Same log)
     (λ _. record { config = refl; acted = refl }) (λ _. record { config = refl; acted = refl })
 
-proposes_all : (log : LogState) (changes : List Change) → Same log (propose_all log changes)
+pub proposes_all : (log : LogState) (changes : List Change) → Same log (propose_all log changes)
 proposes_all log [] = record { config = refl; acted = refl }
 proposes_all log (c ∷ cs) =
     let one = proposes_one log c in

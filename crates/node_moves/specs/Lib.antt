@@ -9,6 +9,8 @@ pub use Rattle.raft_node.specs as raft_node
 pub use Rattle.raft_vote.specs as raft_vote
 pub use Rattle.region_map.specs as region_map
 pub use Rattle.register_laws.specs as register_laws
+pub mod Keys
+pub mod Move
 pub mod Says
 pub mod Sends
 pub use Rattle.secondary_exec.specs as secondary_exec
