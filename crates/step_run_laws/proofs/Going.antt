@@ -1,5 +1,5 @@
 -- In every run a node that tells on what it acted goes on behind what it told before.
-use Rattle.std.proofs.Common.{◌≡◌, ℕ, zero, suc, ◌+◌, ◌==◌, true, false, cond, List, [], ◌∷◌, ◌++◌, length, length-append, Option, Some, None, refl, sym, ap, ◌∙◌, subst, inl, inr, arith}
+use Rattle.std.proofs.Common.{◌≡◌, ℕ, zero, suc, ◌+◌, ◌==◌, true, false, cond, List, [], ◌∷◌, length, length-append, Option, Some, None, refl, sym, ap, ◌∙◌, subst, inl, inr, arith}
 use Rattle.list_laws.specs.Members.{IsIn}
 use Rattle.path_runs.specs.runs.contract_types.declared.applied.Applied.{Applied}
 use Rattle.path_runs.specs.runs.contract_types.declared.change.Change.{Change}
@@ -18,7 +18,7 @@ use Rattle.path_runs.specs.runs.Run.{IsRun, brought, state}
 use Rattle.path_runs.specs.runs.Committed.{viewed_by}
 use Rattle.path_runs.proofs.log_runs.LogWorldLaws.{views_are}
 use Rattle.answer_runs.proofs.ServedCounts.{row_goes}
-use Rattle.step_run_laws.proofs.Quiet.{Tells, speaking, of_step, IsSaid, SaidOf, now_said}
+use Rattle.step_run_laws.proofs.Quiet.{Tells, speaking, of_step, SaidOf, now_said}
 
 results_long : (config : ConfigState) (changes : List Change) (first n : ℕ) → length (results_from config changes first n) ≡ n
 results_long config changes first zero = refl

@@ -1,5 +1,5 @@
 -- Which outputs of a step speak of the log and of contracts: what the node says at a tick, and what it tells that it acted on.
-use Rattle.std.proofs.Common.{◌≡◌, ◌⊎◌, ◌==◌, ℕ, ◌+◌, Bool, true, false, cond, ◌&&◌, List, [], ◌∷◌, ◌++◌, map, filter, nat_le, Option, Some, None, refl, sym, ap, ◌∙◌, subst, inl, inr}
+use Rattle.std.proofs.Common.{◌≡◌, ◌⊎◌, ℕ, ◌+◌, Bool, true, false, cond, ◌&&◌, List, [], ◌∷◌, ◌++◌, map, filter, Option, Some, None, refl, sym, ap, ◌∙◌, inl, inr}
 use Rattle.std.proofs.lemmas.Bool.{cond_both, false≢true}
 use Rattle.std.proofs.lemmas.List.Folds.{list_all-append}
 use Rattle.std.specs.List.{list_all, flat_map}
@@ -18,7 +18,6 @@ use Rattle.path_runs.specs.runs.contract_types.declared.change.Change.{Change}
 use Rattle.path_runs.specs.runs.contract_types.declared.contract.Contract.{Contract}
 use Rattle.path_runs.specs.runs.contract_types.declared.contract.Holder.{Holder}
 use Rattle.path_runs.specs.runs.contract_types.declared.results.Viewed.{Viewed as Results}
-use Rattle.path_runs.specs.runs.coordinator.Acks.{with_ack}
 use Rattle.path_runs.specs.runs.exec_types.declared.input.Input.{Input}
 use Rattle.path_runs.specs.runs.exec_types.declared.input.Input.TheVariants.{Request, GiveUp, See, Tick, Deliver, Crash, Restart}
 use Rattle.path_runs.specs.runs.exec_types.declared.message.Message.{Message}
@@ -41,9 +40,9 @@ use Rattle.path_runs.proofs.step_runs.Outs.{stream_cases}
 use Rattle.path_runs.specs.runs.secondary_exec.Stream.{stream_row, is_ours}
 use Rattle.path_runs.specs.runs.node_core.declared.node.Brought.{Brought}
 use Rattle.path_runs.specs.runs.node_core.Parts.{Requested, Streamed, is_for, request_all, dispatched, passed_on, stream_all, taken, left_alone, give_up_all_outs, decide_all_outs}
-use Rattle.path_runs.specs.runs.node_core.Saying.{Roles, is_following_under, says_to, ack_under, acknowledgements_to, acknowledges, says_under, says_all}
+use Rattle.path_runs.specs.runs.node_core.Saying.{Roles, is_following_under, says_to, ack_under, acknowledgements_to, acknowledges, says_under}
 use Rattle.path_runs.specs.runs.node_core.Starting.{current_of}
-use Rattle.path_runs.specs.runs.node_core.Step.{NodeState, Stepped, silent, leads, raft_outs, roles_of, says_now, with_proposals, tick_log, message_row, is_well_formed, brought_row, input_row, act_on, act, node_step}
+use Rattle.path_runs.specs.runs.node_core.Step.{NodeState, Stepped, silent, raft_outs, roles_of, says_now, with_proposals, tick_log, message_row, is_well_formed, brought_row, input_row, act_on, act, node_step}
 
 -- outputs that neither say nor tell such
 abbrev is_quiet_message : Message → Bool

@@ -1,6 +1,6 @@
 -- In every run a primary is ready, and says so, only where its sync under the contract in force had majorities.
-use Rattle.std.proofs.Common.{◌≡◌, ◌⊎◌, ◌==◌, ◌+◌, ℕ, Bool, true, false, cond, List, [], ◌∷◌, ◌++◌, map, Option, Some, None, refl, sym, ap, ◌∙◌, subst, inl, inr}
-use Rattle.std.proofs.lemmas.Bool.{cond_both, false≢true, eqb-true}
+use Rattle.std.proofs.Common.{◌≡◌, ◌⊎◌, ◌==◌, ◌+◌, ℕ, true, false, cond, List, [], ◌∷◌, map, Option, Some, None, refl, sym, ap, ◌∙◌, subst, inl, inr}
+use Rattle.std.proofs.lemmas.Bool.{cond_both, false≢true}
 use Rattle.std.specs.List.{AllByRecursion, list_any}
 use Rattle.list_laws.specs.Members.{IsIn}
 use Rattle.list_laws.proofs.Members.{IsIn-map, all_member, all_from_members}
@@ -10,7 +10,7 @@ use Rattle.path_runs.specs.runs.region_map.Maps.{Pieced}
 use Rattle.path_runs.specs.runs.branch_history.declared.version.Version.{Version}
 use Rattle.path_runs.proofs.runs.branch_history.PathLaws.{id_same}
 use Rattle.path_runs.specs.runs.contract_types.declared.ack.Ack.{Ack}
-use Rattle.path_runs.specs.runs.contract_types.declared.ack.Ack.TheVariants.{NeedBranch, InProgress, Ready, NeedPrimary, Backfilling, Streaming}
+use Rattle.path_runs.specs.runs.contract_types.declared.ack.Ack.TheVariants.{InProgress, Ready, Backfilling, Streaming}
 use Rattle.path_runs.specs.runs.contract_types.declared.config.ShardConfig.{ShardConfig}
 use Rattle.path_runs.specs.runs.contract_types.declared.contract.Contract.{Contract}
 use Rattle.path_runs.specs.runs.contract_types.declared.contract.Holder.{Holder}
@@ -23,22 +23,20 @@ use Rattle.path_runs.specs.runs.exec_types.declared.message.Message.TheVariants.
 use Rattle.path_runs.specs.runs.exec_types.declared.output.Output.{Output}
 use Rattle.path_runs.specs.runs.exec_types.declared.output.Output.TheVariants as output
 use Rattle.path_runs.specs.runs.primary_exec.declared.asking.Asking.{Asking}
-use Rattle.path_runs.specs.runs.primary_exec.Execution.{Execution, setup_execution, needs_branch, said, is_live, with_stands, with_acked, got_row, decided, becomes_ready}
+use Rattle.path_runs.specs.runs.primary_exec.Execution.{Execution, setup_execution, needs_branch, said, is_live, with_stands, with_acked, got_row, decided}
 use Rattle.primary_exec.proofs.Ready.{ready_once_synced}
 use Rattle.path_runs.specs.runs.secondary_exec.declared.following.Following.{Following}
 use Rattle.path_runs.specs.runs.secondary_exec.declared.waiting.Waiting.{Waiting}
 use Rattle.path_runs.specs.runs.node_core.declared.journal.Entry.{Entry}
 use Rattle.path_runs.specs.runs.node_core.Saying.{Roles, is_asking_under, is_run_under, is_waiting_under, is_following_under, or_ack, asking_ack, execution_ack, waiting_ack, following_ack, ack_under}
 use Rattle.path_runs.specs.runs.node_core.Starting.{current_of}
-use Rattle.path_runs.specs.runs.node_core.Step.{NodeState, Stepped, is_led, executions_from, coordinates, propose_all, with_proposals, input_row, act, node_step}
-use Rattle.path_runs.specs.runs.Committed.{IsEarlier}
+use Rattle.path_runs.specs.runs.node_core.Step.{NodeState, is_led, executions_from, coordinates, propose_all, input_row, act, node_step}
 use Rattle.path_runs.specs.runs.Run.{IsRun, brought, state}
 use Rattle.path_runs.proofs.step_runs.Setups.{setup_branch}
-use Rattle.step_laws.specs.Counting.{has_majorities}
 use Rattle.step_laws.proofs.Executions.{IsKeptBy, all_acted}
 use Rattle.step_laws.proofs.Waits.{majorities_are}
 use Rattle.step_run_laws.specs.Synced.{WasSynced, IsReadyRightly}
-use Rattle.step_run_laws.proofs.Quiet.{speaking, Tells, of_step, IsSaid, SaidOf, now_said}
+use Rattle.step_run_laws.proofs.Quiet.{speaking, Tells, of_step, SaidOf, now_said}
 
 -- ---- what is ready
 

@@ -17,12 +17,12 @@ use Rattle.path_runs.specs.runs.write_dispatch.Dispatch.{all_below, is_rising}
 use Rattle.path_runs.specs.runs.primary_exec.Execution.{Execution}
 use Rattle.path_runs.specs.runs.node_core.declared.journal.Entry.{Entry}
 use Rattle.path_runs.specs.runs.node_core.Parts.{is_for}
-use Rattle.path_runs.specs.runs.node_core.Step.{NodeState, Stepped, executions_from, serves, node_step}
+use Rattle.path_runs.specs.runs.node_core.Step.{NodeState, executions_from, node_step}
 use Rattle.path_runs.specs.runs.Run.{IsRun, brought, state}
 use Rattle.path_runs.specs.runs.Serving.{is_served_by}
 use Rattle.path_runs.proofs.step_runs.Setups.{nothing_begun}
 use Rattle.answer_runs.proofs.ServedLaws.{serves_exactly}
-use Rattle.step_laws.specs.Counting.{WaitsInOrder, AllWaitInOrder, StillWaits, has_majorities}
+use Rattle.step_laws.specs.Counting.{AllWaitInOrder, StillWaits, has_majorities}
 use Rattle.step_laws.specs.Outs.{GoesOn, dispatched_in, refused_in}
 use Rattle.step_laws.proofs.Requested.{requested_dispatched, requested_refused}
 use Rattle.step_laws.proofs.Waits.{none_left, order_stays, answered_at_once}
@@ -34,7 +34,7 @@ own_state setup past e =
 
 -- ---- requests
 
-unserved : (hashes : ℕ) (key : List ℕ) (xs : List Execution) → list_any (is_for hashes key) xs ≡ false → (x : Execution) → IsIn xs x → is_for hashes key x ≡ false
+pub unserved : (hashes : ℕ) (key : List ℕ) (xs : List Execution) → list_any (is_for hashes key) xs ≡ false → (x : Execution) → IsIn xs x → is_for hashes key x ≡ false
 unserved hashes key [] h x i = absurd i
 unserved hashes key (y ∷ ys) h x i =
     elim (is_for hashes key y) as (λ b. is_for hashes key y ≡ b → (b || list_any (is_for hashes key) ys) ≡ false → is_for hashes key x ≡ false) [

@@ -9,7 +9,11 @@ ghost use Rattle.path_runs.specs.runs.contract_types.Setup.{SetupState, IsSetup}
 ghost use Rattle.path_runs.specs.runs.contract_types.declared.ack.Ack.TheVariants.{Ready};
 ghost use Rattle.path_runs.specs.runs.contract_types.declared.applied.Applied.{Applied};
 ghost use Rattle.path_runs.specs.runs.contract_types.declared.change.Change.{Change};
-ghost use Rattle.path_runs.specs.runs.exec_types.declared.input.Input.TheVariants.{Request};
+ghost use Rattle.path_runs.specs.runs.contract_types.declared.contract.Contract.{Contract};
+ghost use Rattle.path_runs.specs.runs.contract_types.declared.contract.Holder.{Holder};
+ghost use Rattle.path_runs.specs.runs.table_log.Logs.{table_of};
+ghost use Rattle.path_runs.specs.runs.store_api.Rows.{has_key};
+ghost use Rattle.path_runs.specs.runs.exec_types.declared.input.Input.TheVariants.{Request, Tick};
 ghost use Rattle.path_runs.specs.runs.exec_types.declared.message.Message.TheVariants.{Say};
 ghost use Rattle.path_runs.specs.runs.exec_types.declared.outcome.Outcome.TheVariants.{Done};
 ghost use Rattle.path_runs.specs.runs.exec_types.declared.output.Output.TheVariants.{Message, Viewed, Answer};
@@ -20,7 +24,7 @@ ghost use Rattle.path_runs.specs.runs.Run.{IsRun, state};
 ghost use Rattle.path_runs.specs.runs.Serving.{is_served_by};
 ghost use Rattle.path_runs.specs.runs.Committed.{viewed_by};
 ghost use Rattle.step_laws.specs.Counting.{StillWaits, has_majorities};
-ghost use Rattle.step_laws.specs.Outs.{GoesOn, dispatched_in, refused_in};
+ghost use Rattle.step_laws.specs.Outs.{AsksFor, GoesOn, dispatched_in, refused_in};
 ghost use Rattle.step_run_laws.specs.Synced.{IsReadyRightly};
 
 /// In every run, a request is taken up in the entry that brings it: where its node is to serve the key, by its table, its
@@ -43,6 +47,17 @@ pub fn majorities_are_answered()
     ensures done { (setup : SetupState) → IsSetup setup → (past : List Entry) (e : Entry) → IsRun setup (e ∷ past)
         → (x : Execution) (d : Decided) (op : OpId) → IsIn (state setup e.node.0 past).executions x → IsIn x.dispatch.waiting d → d.op ≡ Some op → GoesOn e.input op
         → IsIn e.outputs (Answer op (Done d.reply x.branch d.at)) ⊎ StillWaits (state setup e.node.0 (e ∷ past)).executions x.branch d }
+{}
+
+/// In every run, the primary of a key, by a contract of its own table, serves the key, or asks for a branch under that contract
+/// at each tick after which it knows a leader.
+pub fn primaries_serve_or_ask()
+    ensures { (setup : SetupState) → IsSetup setup → (past : List Entry) (e : Entry) → IsRun setup (e ∷ past)
+        → (key : List ℕ) (c : Contract) (holder : Holder) (leader : NodeId) → e.input ≡ Tick
+        → (state setup e.node.0 (e ∷ past)).log.raft.votes.leader ≡ Some leader
+        → IsIn (table_of (state setup e.node.0 past).log).contracts c → has_key c.region setup.hashes key ≡ true
+        → c.primary ≡ Some holder → holder.server.0 ≡ e.node.0
+        → (is_served_by (state setup e.node.0 past) key ≡ true) ⊎ ((branch : Id) × AsksFor e.outputs leader c.id branch) }
 {}
 
 /// In every run, a node that tells on what it acted names the index behind the changes that it told of before.
