@@ -1,0 +1,54 @@
+-- The executions of a node, and what it asks for, by their branches: no branch stands there twice.
+use Rattle.std.proofs.Common.{◌≡◌, ℕ, ◌+◌, ◌≤◌, true, false, cond, List, [], ◌∷◌, inl, inr, refl, sym, ap, ◌∙◌, subst, arith}
+use Rattle.std.specs.List.{AllByRecursion}
+use Rattle.row_runs.specs.runs.region_map.declared.id.Id.{Id}
+use Rattle.row_runs.specs.runs.region_map.Equal.{same_id}
+use Rattle.row_runs.specs.runs.primary_exec.declared.asking.Asking.{Asking}
+use Rattle.row_runs.specs.runs.primary_exec.Execution.{Execution}
+use Rattle.row_runs.specs.runs.Story.{IsIn}
+use Rattle.row_runs.proofs.step_runs.PointBranches.{times, times_same, Head, head_of, heads_of, branches, asked_of}
+
+pub head_at : (P : Head → Type 0) (xs : List Execution) (x : Execution) → AllByRecursion P (heads_of xs) → IsIn xs x → P (head_of x)
+head_at P [] x h i = absurd i
+head_at P (y ∷ ys) x h i = elim i [ inl e ↦ subst (λ (z : Execution). P (head_of z)) e h.0 | inr j ↦ head_at P ys x h.1 j ]
+
+pub asked_at : (P : Id → Type 0) (waits : List Asking) (a : Asking) → AllByRecursion P (asked_of waits) → IsIn waits a → P a.branch
+asked_at P [] a h i = absurd i
+asked_at P (w ∷ waits) a h i = elim i [ inl e ↦ subst (λ (x : Asking). P x.branch) e h.0 | inr j ↦ asked_at P waits a h.1 j ]
+
+pub counted : (xs : List Execution) (x : Execution) → IsIn xs x → 1 ≤ times (branches (heads_of xs)) x.branch
+counted [] x i = absurd i
+counted (y ∷ ys) x i =
+    elim i [
+      | inl e ↦ let one = times_same y.branch x.branch (times (branches (heads_of ys)) x.branch) (ap (λ (z : Execution). z.branch) e) in omega (arith, one)
+      | inr j ↦ let rest = counted ys x j in omega (arith, rest)
+    ]
+
+pub asked_counted : (waits : List Asking) (a : Asking) → IsIn waits a → 1 ≤ times (asked_of waits) a.branch
+asked_counted [] a i = absurd i
+asked_counted (w ∷ waits) a i =
+    elim i [
+      | inl e ↦ let one = times_same w.branch a.branch (times (asked_of waits) a.branch) (ap (λ (z : Asking). z.branch) e) in omega (arith, one)
+      | inr j ↦ let rest = asked_counted waits a j in omega (arith, rest)
+    ]
+
+-- two executions of one branch are the same
+pub one_execution : (xs : List Execution) (b : Id) → times (branches (heads_of xs)) b ≤ 1 → (x y : Execution) → IsIn xs x → IsIn xs y → x.branch ≡ b → y.branch ≡ b → x ≡ y
+one_execution [] b few x y i j p q = absurd i
+one_execution (z ∷ zs) b few x y i j p q =
+    let rest : ℕ = times (branches (heads_of zs)) b in
+    let among : (w : Execution) → IsIn zs w → w.branch ≡ b → 1 ≤ rest = λ w k e. subst (λ (c : Id). 1 ≤ times (branches (heads_of zs)) c) e (counted zs w k) in
+    let first : z.branch ≡ b → (w : Execution) → IsIn zs w → w.branch ≡ b → ⊥ = λ e w k f.
+    let one = times_same z.branch b rest e in
+    let some = among w k f in
+    omega (arith, one, some, few) in
+    elim i [
+      | inl e ↦ elim j [
+        | inl f ↦ sym e ∙ f
+        | inr l ↦ absurd (first (ap (λ (w : Execution). w.branch) e ∙ p) y l q)
+      ]
+      | inr k ↦ elim j [
+        | inl f ↦ absurd (first (ap (λ (w : Execution). w.branch) f ∙ q) x k p)
+        | inr l ↦ one_execution zs b (omega (arith, few)) x y k l p q
+      ]
+    ]

@@ -1,0 +1,8 @@
+pub use Rattle.row_runs.proofs.lead_runs as lead_runs
+pub use Rattle.row_runs.proofs.log_runs as log_runs
+pub use Rattle.row_runs.proofs.runs as runs
+pub use Rattle.row_runs.proofs.step_runs as step_runs
+pub mod Executions
+pub mod Heads
+pub mod Outputs
+pub mod TakenRuns

@@ -1,0 +1,4 @@
+pub use Rattle.row_runs.specs.runs as runs
+pub mod Carried
+pub mod Takings
+pub mod Traced
