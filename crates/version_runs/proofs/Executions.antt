@@ -262,7 +262,7 @@ each_stays : (me : NodeId) (t : Table) (rest : List Asking) (s : Starting) (l : 
 each_stays me t [] s l i = i
 each_stays me t (a ∷ rest) s l i = each_stays me t rest (start_one me t.contracts a (due t a) s) l (one_stays me t.contracts a (due t a) s l i)
 
-each_starts : (me : NodeId) (t : Table) (rest : List Asking) (s : Starting) (a : Asking) (initial : ℕ) → IsIn rest a → due t a ≡ Some initial → IsIn (start_each me t rest s).executions (started a me initial)
+pub each_starts : (me : NodeId) (t : Table) (rest : List Asking) (s : Starting) (a : Asking) (initial : ℕ) → IsIn rest a → due t a ≡ Some initial → IsIn (start_each me t rest s).executions (started a me initial)
 each_starts me t [] s a initial i e = absurd i
 each_starts me t (b ∷ rest) s a initial i e =
     let next : Starting = start_one me t.contracts b (due t b) s in

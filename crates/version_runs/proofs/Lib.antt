@@ -1,3 +1,4 @@
+pub use Rattle.row_runs.proofs.change_runs as change_runs
 pub use Rattle.row_runs.proofs.lead_runs as lead_runs
 pub use Rattle.row_runs.proofs.log_runs as log_runs
 pub use Rattle.row_runs.proofs.runs as runs
@@ -6,3 +7,6 @@ pub mod Executions
 pub mod Heads
 pub mod Outputs
 pub mod TakenRuns
+pub mod TracedBegins
+pub mod TracedRuns
+pub mod TracedSteps

@@ -107,13 +107,13 @@ module _ (setup : SetupState) (past : List Entry) (e : Entry) (run : IsRun setup
   abbrev s : NodeState
   s = state setup n past
 
-  abbrev after : NodeState
+  abbrev pub after : NodeState
   after = (node_step s e.input (brought past e.input)).node
 
-  after_is : state setup n (e ∷ past) ≡ after
+  pub after_is : state setup n (e ∷ past) ≡ after
   after_is = ap (λ b. cond b (moving setup past e n) (state setup n past)) (eq-eqb n n refl)
 
-  other_is : (m : ℕ) → (n ≡ m → ⊥) → state setup m (e ∷ past) ≡ state setup m past
+  pub other_is : (m : ℕ) → (n ≡ m → ⊥) → state setup m (e ∷ past) ≡ state setup m past
   other_is m apart =
       elim (cases_Bool (n == m)) [
         | inl same ↦ absurd (apart (eqb-true n m same))
@@ -126,7 +126,7 @@ module _ (setup : SetupState) (past : List Entry) (e : Entry) (run : IsRun setup
   after_held : IsHeld n (points (e ∷ past)) (held after)
   after_held = subst (λ (t : NodeState). IsHeld n (points (e ∷ past)) (held t)) after_is ((points_rise setup (e ∷ past) run).1 n)
 
-  own_after : (y : Execution) → IsIn after.executions y → IsOwn n after.life y.branch
+  pub own_after : (y : Execution) → IsIn after.executions y → IsOwn n after.life y.branch
   own_after y i =
       let h = head_at (IsHeadOf n after.life (points (e ∷ past))) after.executions y after_held.heads_are i in
       record { node_is = h.node_is; life_is = h.life_is }
@@ -147,7 +147,7 @@ module _ (setup : SetupState) (past : List Entry) (e : Entry) (run : IsRun setup
       one_execution s.executions z.branch (omega (arith, few)) x z i j same refl
 
   -- what starts asked in the present life, and had no execution
-  never_both : (x : Execution) → IsIn s.executions x → (a : Asking) → IsIn s.asking a ⊎ (a.branch.life ≡ s.life + 1) → a.branch ≡ x.branch → ⊥
+  pub never_both : (x : Execution) → IsIn s.executions x → (a : Asking) → IsIn s.asking a ⊎ (a.branch.life ≡ s.life + 1) → a.branch ≡ x.branch → ⊥
   never_both x i a (inl j) same =
       let few = before_held.once x.branch in
       let some = counted s.executions x i in
