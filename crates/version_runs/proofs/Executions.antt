@@ -1,35 +1,35 @@
 -- What a step leaves of a node's executions: each is one that was there, or starts a branch for which the node asked.
 use Rattle.std.proofs.Common.{◌≡◌, ◌⊎◌, ℕ, ◌+◌, ◌≤◌, true, false, cond, List, [], ◌∷◌, ◌++◌, map, filter, nat_lt, max, min, Option, Some, None, inl, inr, refl, sym, ap, ◌∙◌, subst, arith}
 use Rattle.std.proofs.lemmas.Bool.{cond_both}
-use Rattle.row_runs.specs.runs.region_map.declared.id.Id.{Id}
-use Rattle.row_runs.specs.runs.region_map.declared.id.NodeId.{NodeId}
-use Rattle.row_runs.specs.runs.region_map.Maps.{Pieced}
-use Rattle.row_runs.specs.runs.branch_history.declared.version.Version.{Version}
-use Rattle.row_runs.specs.runs.register_laws.declared.operation.OpId.{OpId}
-use Rattle.row_runs.specs.runs.register_laws.declared.operation.Op.{Op}
-use Rattle.row_runs.specs.runs.contract_types.declared.contract.Contract.{Contract}
-use Rattle.row_runs.specs.runs.contract_types.declared.results.Viewed.{Viewed}
-use Rattle.row_runs.specs.runs.contract_types.Tables.{Table}
-use Rattle.row_runs.specs.runs.table_apply.Conditions.{is_held_by}
-use Rattle.row_runs.specs.runs.table_log.Logs.{LogState, table_of, caught_up, viewed}
-use Rattle.row_runs.specs.runs.coordinator.Acks.{with_ack}
-use Rattle.row_runs.specs.runs.coordinator.Proposals.{proposals_of, after_proposals}
-use Rattle.row_runs.specs.runs.exec_types.declared.message.Got.{Got}
-use Rattle.row_runs.specs.runs.exec_types.declared.message.Message.{Message as Sent}
-use Rattle.row_runs.specs.runs.exec_types.declared.message.Message.TheVariants as message
-use Rattle.row_runs.specs.runs.exec_types.declared.message.SessionName.{SessionName}
-use Rattle.row_runs.specs.runs.exec_types.declared.input.Input.{Input}
-use Rattle.row_runs.specs.runs.exec_types.declared.input.Input.TheVariants.{Request, GiveUp, See, Tick, Deliver, Crash, Restart}
-use Rattle.row_runs.specs.runs.store_api.Rows.{Rows}
-use Rattle.row_runs.specs.runs.primary_exec.declared.asking.Asking.{Asking}
-use Rattle.row_runs.specs.runs.primary_exec.declared.session.Session.{Session}
-use Rattle.row_runs.specs.runs.primary_exec.Execution.{Execution, PrimaryStep, has_room, with_sent, dispatch_row, is_session, with_acked, with_stands, is_live, got_row, give_up_row, decided, started}
-use Rattle.row_runs.specs.runs.node_core.declared.node.Brought.{Brought}
-use Rattle.row_runs.specs.runs.node_core.Parts.{Requested, is_for, dispatched, passed_on, request_all}
-use Rattle.row_runs.specs.runs.node_core.Starting.{Starting, place_of, placed, due, start_one, start_each}
-use Rattle.row_runs.specs.runs.node_core.Step.{NodeState, Stepped, silent, leads, coordinates, propose_all, id_in, askings_from, tick_row, message_row, is_well_formed, brought_row, input_row, act_on, act, node_step}
-use Rattle.row_runs.specs.runs.Story.{IsIn}
-use Rattle.row_runs.proofs.runs.list_laws.Members.{IsIn-left, IsIn-right, IsIn-append, IsIn-filter, IsIn-map}
+use Rattle.path_runs.specs.runs.region_map.declared.id.Id.{Id}
+use Rattle.path_runs.specs.runs.region_map.declared.id.NodeId.{NodeId}
+use Rattle.path_runs.specs.runs.region_map.Maps.{Pieced}
+use Rattle.path_runs.specs.runs.branch_history.declared.version.Version.{Version}
+use Rattle.path_runs.specs.runs.register_laws.declared.operation.OpId.{OpId}
+use Rattle.path_runs.specs.runs.register_laws.declared.operation.Op.{Op}
+use Rattle.path_runs.specs.runs.contract_types.declared.contract.Contract.{Contract}
+use Rattle.path_runs.specs.runs.contract_types.declared.results.Viewed.{Viewed}
+use Rattle.path_runs.specs.runs.contract_types.Tables.{Table}
+use Rattle.path_runs.specs.runs.table_apply.Conditions.{is_held_by}
+use Rattle.path_runs.specs.runs.table_log.Logs.{LogState, table_of, caught_up, viewed}
+use Rattle.path_runs.specs.runs.coordinator.Acks.{with_ack}
+use Rattle.path_runs.specs.runs.coordinator.Proposals.{proposals_of, after_proposals}
+use Rattle.path_runs.specs.runs.exec_types.declared.message.Got.{Got}
+use Rattle.path_runs.specs.runs.exec_types.declared.message.Message.{Message as Sent}
+use Rattle.path_runs.specs.runs.exec_types.declared.message.Message.TheVariants as message
+use Rattle.path_runs.specs.runs.exec_types.declared.message.SessionName.{SessionName}
+use Rattle.path_runs.specs.runs.exec_types.declared.input.Input.{Input}
+use Rattle.path_runs.specs.runs.exec_types.declared.input.Input.TheVariants.{Request, GiveUp, See, Tick, Deliver, Crash, Restart}
+use Rattle.path_runs.specs.runs.store_api.Rows.{Rows}
+use Rattle.path_runs.specs.runs.primary_exec.declared.asking.Asking.{Asking}
+use Rattle.path_runs.specs.runs.primary_exec.declared.session.Session.{Session}
+use Rattle.path_runs.specs.runs.primary_exec.Execution.{Execution, PrimaryStep, has_room, with_sent, dispatch_row, is_session, with_acked, with_stands, is_live, got_row, give_up_row, decided, started}
+use Rattle.path_runs.specs.runs.node_core.declared.node.Brought.{Brought}
+use Rattle.path_runs.specs.runs.node_core.Parts.{Requested, is_for, dispatched, passed_on, request_all}
+use Rattle.path_runs.specs.runs.node_core.Starting.{Starting, place_of, placed, due, start_one, start_each}
+use Rattle.path_runs.specs.runs.node_core.Step.{NodeState, Stepped, silent, leads, coordinates, propose_all, id_in, askings_from, tick_row, message_row, is_well_formed, brought_row, input_row, act_on, act, node_step}
+use Rattle.path_runs.specs.runs.Story.{IsIn}
+use Rattle.path_runs.proofs.runs.list_laws.Members.{IsIn-left, IsIn-right, IsIn-append, IsIn-filter, IsIn-map}
 
 -- ---- an execution that goes on
 

@@ -1,12 +1,12 @@
 -- The executions of a node, and what it asks for, by their branches: no branch stands there twice.
 use Rattle.std.proofs.Common.{◌≡◌, ℕ, ◌+◌, ◌≤◌, true, false, cond, List, [], ◌∷◌, inl, inr, refl, sym, ap, ◌∙◌, subst, arith}
 use Rattle.std.specs.List.{AllByRecursion}
-use Rattle.row_runs.specs.runs.region_map.declared.id.Id.{Id}
-use Rattle.row_runs.specs.runs.region_map.Equal.{same_id}
-use Rattle.row_runs.specs.runs.primary_exec.declared.asking.Asking.{Asking}
-use Rattle.row_runs.specs.runs.primary_exec.Execution.{Execution}
-use Rattle.row_runs.specs.runs.Story.{IsIn}
-use Rattle.row_runs.proofs.step_runs.PointBranches.{times, times_same, Head, head_of, heads_of, branches, asked_of}
+use Rattle.path_runs.specs.runs.region_map.declared.id.Id.{Id}
+use Rattle.path_runs.specs.runs.region_map.Equal.{same_id}
+use Rattle.path_runs.specs.runs.primary_exec.declared.asking.Asking.{Asking}
+use Rattle.path_runs.specs.runs.primary_exec.Execution.{Execution}
+use Rattle.path_runs.specs.runs.Story.{IsIn}
+use Rattle.path_runs.proofs.step_runs.PointBranches.{times, times_same, Head, head_of, heads_of, branches, asked_of}
 
 pub head_at : (P : Head → Type 0) (xs : List Execution) (x : Execution) → AllByRecursion P (heads_of xs) → IsIn xs x → P (head_of x)
 head_at P [] x h i = absurd i

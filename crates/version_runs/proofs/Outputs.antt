@@ -2,59 +2,59 @@
 use Rattle.std.proofs.Common.{◌≡◌, ℕ, ◌+◌, ◌==◌, true, List, [], ◌∷◌, ◌++◌, map, filter, nat_le, Option, Some, None, inl, inr, refl, sym, subst}
 use Rattle.std.proofs.lemmas.Bool.{cond_both}
 use Rattle.std.specs.List.{AllByRecursion, flat_map, list_any}
-use Rattle.row_runs.specs.runs.region_map.declared.id.Id.{Id}
-use Rattle.row_runs.specs.runs.region_map.declared.id.NodeId.{NodeId}
-use Rattle.row_runs.specs.runs.region_map.declared.region.Region.{Region}
-use Rattle.row_runs.specs.runs.region_map.Nodes.{has}
-use Rattle.row_runs.specs.runs.region_map.Maps.{Pieced}
-use Rattle.row_runs.specs.runs.region_map.Made.{mask_map}
-use Rattle.row_runs.specs.runs.branch_history.declared.version.Version.{Version}
-use Rattle.row_runs.specs.runs.branch_history.Equal.{same_version}
-use Rattle.row_runs.specs.runs.raft_vote.declared.message.RaftMessage.{RaftMessage}
-use Rattle.row_runs.specs.runs.raft_node.declared.input.RaftInput.TheVariants as raft
-use Rattle.row_runs.specs.runs.register_laws.declared.operation.OpId.{OpId}
-use Rattle.row_runs.specs.runs.register_laws.declared.operation.Op.{Op}
-use Rattle.row_runs.specs.runs.register_laws.Register.{State, state_after, writes}
-use Rattle.row_runs.specs.runs.contract_types.declared.ack.Ack.{Ack}
-use Rattle.row_runs.specs.runs.contract_types.declared.ack.Ack.TheVariants.{NeedBranch, InProgress, Ready, NeedPrimary, Backfilling, Streaming}
-use Rattle.row_runs.specs.runs.contract_types.declared.change.Change.{Change}
-use Rattle.row_runs.specs.runs.contract_types.declared.contract.Contract.{Contract}
-use Rattle.row_runs.specs.runs.contract_types.declared.contract.Holder.{Holder}
-use Rattle.row_runs.specs.runs.contract_types.declared.results.Viewed.{Viewed as Results}
-use Rattle.row_runs.specs.runs.coordinator.Acks.{with_ack}
-use Rattle.row_runs.specs.runs.coordinator.Proposals.{proposals_of, after_proposals}
-use Rattle.row_runs.specs.runs.table_log.Logs.{LogStepped, table_of, log_step, viewed}
-use Rattle.row_runs.specs.runs.exec_types.Parts.{timestamp_of}
-use Rattle.row_runs.specs.runs.exec_types.declared.message.Got.{Got}
-use Rattle.row_runs.specs.runs.exec_types.declared.message.Message.{Message as Sent}
-use Rattle.row_runs.specs.runs.exec_types.declared.message.Message.TheVariants as message
-use Rattle.row_runs.specs.runs.exec_types.declared.message.Part.{Part}
-use Rattle.row_runs.specs.runs.exec_types.declared.message.Part.TheVariants.{Write, Sync}
-use Rattle.row_runs.specs.runs.exec_types.declared.message.SessionName.{SessionName}
-use Rattle.row_runs.specs.runs.exec_types.declared.message.Stream.{Stream}
-use Rattle.row_runs.specs.runs.exec_types.declared.input.Input.{Input}
-use Rattle.row_runs.specs.runs.exec_types.declared.input.Input.TheVariants.{Request, GiveUp, See, Tick, Deliver, Crash, Restart}
-use Rattle.row_runs.specs.runs.exec_types.declared.outcome.Outcome.TheVariants.{NoMajority}
-use Rattle.row_runs.specs.runs.exec_types.declared.output.Output.{Output}
-use Rattle.row_runs.specs.runs.exec_types.declared.output.Output.TheVariants.{Message, Dispatched, Viewed, Answer}
-use Rattle.row_runs.specs.runs.store_api.Rows.{Rows, value_of}
-use Rattle.row_runs.specs.runs.write_dispatch.declared.decided.Decided.{Decided}
-use Rattle.row_runs.specs.runs.write_dispatch.Dispatch.{counts_of, is_decided, pending_of}
-use Rattle.row_runs.specs.runs.secondary_exec.declared.following.Following.{Following}
-use Rattle.row_runs.specs.runs.secondary_exec.declared.waiting.Waiting.{Waiting}
-use Rattle.row_runs.specs.runs.secondary_exec.Stream.{FollowingStep, acknowledgement, stream_row, is_ours, apply_part}
-use Rattle.row_runs.specs.runs.primary_exec.declared.asking.Asking.{Asking}
-use Rattle.row_runs.specs.runs.primary_exec.declared.session.Session.{Session}
-use Rattle.row_runs.specs.runs.primary_exec.Execution.{Execution, PrimaryStep, has_room, sends, part_of, dispatch_row, needs_branch, said, answers, decides, decided_answers, decide_outs, given_up, give_up_outs}
-use Rattle.row_runs.specs.runs.node_core.declared.node.Brought.{Brought}
-use Rattle.row_runs.specs.runs.node_core.Parts.{Requested, Streamed, is_for, dispatched, passed_on, request_all, taken, left_alone, stream_all, give_up_all_outs, decide_all_outs}
-use Rattle.row_runs.specs.runs.node_core.Saying.{Roles, is_asking_under, is_run_under, is_waiting_under, is_following_under, or_ack, asking_ack, execution_ack, waiting_ack, following_ack, ack_under, says_to, acknowledgements_to, acknowledges, says_under, says_all}
-use Rattle.row_runs.specs.runs.node_core.Starting.{current_of}
-use Rattle.row_runs.specs.runs.node_core.Step.{NodeState, Stepped, silent, coordinates, propose_all, with_log, with_proposals, roles_of, raft_outs, says_now, tick_row, message_row, is_well_formed, brought_row, input_row, act_on, act, node_step}
-use Rattle.row_runs.specs.runs.Story.{IsIn}
-use Rattle.row_runs.proofs.runs.list_laws.All.{all_append}
-use Rattle.row_runs.proofs.runs.list_laws.Members.{IsIn-left, IsIn-right, IsIn-filter, all_from_members}
-use Rattle.row_runs.proofs.step_runs.Outs.{stream_cases}
+use Rattle.path_runs.specs.runs.region_map.declared.id.Id.{Id}
+use Rattle.path_runs.specs.runs.region_map.declared.id.NodeId.{NodeId}
+use Rattle.path_runs.specs.runs.region_map.declared.region.Region.{Region}
+use Rattle.path_runs.specs.runs.region_map.Nodes.{has}
+use Rattle.path_runs.specs.runs.region_map.Maps.{Pieced}
+use Rattle.path_runs.specs.runs.region_map.Made.{mask_map}
+use Rattle.path_runs.specs.runs.branch_history.declared.version.Version.{Version}
+use Rattle.path_runs.specs.runs.branch_history.Equal.{same_version}
+use Rattle.path_runs.specs.runs.raft_vote.declared.message.RaftMessage.{RaftMessage}
+use Rattle.path_runs.specs.runs.raft_node.declared.input.RaftInput.TheVariants as raft
+use Rattle.path_runs.specs.runs.register_laws.declared.operation.OpId.{OpId}
+use Rattle.path_runs.specs.runs.register_laws.declared.operation.Op.{Op}
+use Rattle.path_runs.specs.runs.register_laws.Register.{State, state_after, writes}
+use Rattle.path_runs.specs.runs.contract_types.declared.ack.Ack.{Ack}
+use Rattle.path_runs.specs.runs.contract_types.declared.ack.Ack.TheVariants.{NeedBranch, InProgress, Ready, NeedPrimary, Backfilling, Streaming}
+use Rattle.path_runs.specs.runs.contract_types.declared.change.Change.{Change}
+use Rattle.path_runs.specs.runs.contract_types.declared.contract.Contract.{Contract}
+use Rattle.path_runs.specs.runs.contract_types.declared.contract.Holder.{Holder}
+use Rattle.path_runs.specs.runs.contract_types.declared.results.Viewed.{Viewed as Results}
+use Rattle.path_runs.specs.runs.coordinator.Acks.{with_ack}
+use Rattle.path_runs.specs.runs.coordinator.Proposals.{proposals_of, after_proposals}
+use Rattle.path_runs.specs.runs.table_log.Logs.{LogStepped, table_of, log_step, viewed}
+use Rattle.path_runs.specs.runs.exec_types.Parts.{timestamp_of}
+use Rattle.path_runs.specs.runs.exec_types.declared.message.Got.{Got}
+use Rattle.path_runs.specs.runs.exec_types.declared.message.Message.{Message as Sent}
+use Rattle.path_runs.specs.runs.exec_types.declared.message.Message.TheVariants as message
+use Rattle.path_runs.specs.runs.exec_types.declared.message.Part.{Part}
+use Rattle.path_runs.specs.runs.exec_types.declared.message.Part.TheVariants.{Write, Sync}
+use Rattle.path_runs.specs.runs.exec_types.declared.message.SessionName.{SessionName}
+use Rattle.path_runs.specs.runs.exec_types.declared.message.Stream.{Stream}
+use Rattle.path_runs.specs.runs.exec_types.declared.input.Input.{Input}
+use Rattle.path_runs.specs.runs.exec_types.declared.input.Input.TheVariants.{Request, GiveUp, See, Tick, Deliver, Crash, Restart}
+use Rattle.path_runs.specs.runs.exec_types.declared.outcome.Outcome.TheVariants.{NoMajority}
+use Rattle.path_runs.specs.runs.exec_types.declared.output.Output.{Output}
+use Rattle.path_runs.specs.runs.exec_types.declared.output.Output.TheVariants.{Message, Dispatched, Viewed, Answer}
+use Rattle.path_runs.specs.runs.store_api.Rows.{Rows, value_of}
+use Rattle.path_runs.specs.runs.write_dispatch.declared.decided.Decided.{Decided}
+use Rattle.path_runs.specs.runs.write_dispatch.Dispatch.{counts_of, is_decided, pending_of}
+use Rattle.path_runs.specs.runs.secondary_exec.declared.following.Following.{Following}
+use Rattle.path_runs.specs.runs.secondary_exec.declared.waiting.Waiting.{Waiting}
+use Rattle.path_runs.specs.runs.secondary_exec.Stream.{FollowingStep, acknowledgement, stream_row, is_ours, apply_part}
+use Rattle.path_runs.specs.runs.primary_exec.declared.asking.Asking.{Asking}
+use Rattle.path_runs.specs.runs.primary_exec.declared.session.Session.{Session}
+use Rattle.path_runs.specs.runs.primary_exec.Execution.{Execution, PrimaryStep, has_room, sends, part_of, dispatch_row, needs_branch, said, answers, decides, decided_answers, decide_outs, given_up, give_up_outs}
+use Rattle.path_runs.specs.runs.node_core.declared.node.Brought.{Brought}
+use Rattle.path_runs.specs.runs.node_core.Parts.{Requested, Streamed, is_for, dispatched, passed_on, request_all, taken, left_alone, stream_all, give_up_all_outs, decide_all_outs}
+use Rattle.path_runs.specs.runs.node_core.Saying.{Roles, is_asking_under, is_run_under, is_waiting_under, is_following_under, or_ack, asking_ack, execution_ack, waiting_ack, following_ack, ack_under, says_to, acknowledgements_to, acknowledges, says_under, says_all}
+use Rattle.path_runs.specs.runs.node_core.Starting.{current_of}
+use Rattle.path_runs.specs.runs.node_core.Step.{NodeState, Stepped, silent, coordinates, propose_all, with_log, with_proposals, roles_of, raft_outs, says_now, tick_row, message_row, is_well_formed, brought_row, input_row, act_on, act, node_step}
+use Rattle.path_runs.specs.runs.Story.{IsIn}
+use Rattle.path_runs.proofs.runs.list_laws.All.{all_append}
+use Rattle.path_runs.proofs.runs.list_laws.Members.{IsIn-left, IsIn-right, IsIn-filter, all_from_members}
+use Rattle.path_runs.proofs.step_runs.Outs.{stream_cases}
 
 part_time : (before : State) (at : ℕ) (key : List ℕ) (what : Op) → timestamp_of (part_of before at key what) ≡ at
 part_time before at key what =

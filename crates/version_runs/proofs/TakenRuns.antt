@@ -2,33 +2,33 @@
 use Rattle.std.proofs.Common.{◌≡◌, ◌⊎◌, ℕ, ◌+◌, ◌≤◌, ◌<◌, ◌==◌, true, cond, List, [], ◌∷◌, ◌++◌, Option, Some, None, inl, inr, refl, sym, ap, ◌∙◌, subst, arith}
 use Rattle.std.proofs.lemmas.Bool.{cond_both, eqb-true, eq-eqb, cases_Bool, both_ways}
 use Rattle.std.specs.List.{AllByRecursion}
-use Rattle.row_runs.specs.runs.region_map.declared.id.Id.{Id}
-use Rattle.row_runs.specs.runs.region_map.Nodes.{node_id}
-use Rattle.row_runs.specs.runs.region_map.Maps.{Pieced}
-use Rattle.row_runs.specs.runs.branch_history.declared.version.Version.{Version}
-use Rattle.row_runs.specs.runs.register_laws.declared.operation.OpId.{OpId}
-use Rattle.row_runs.specs.runs.register_laws.declared.operation.Op.{Op}
-use Rattle.row_runs.specs.runs.contract_types.Setup.{SetupState, IsSetup}
-use Rattle.row_runs.specs.runs.table_log.Logs.{viewed}
-use Rattle.row_runs.specs.runs.exec_types.declared.message.SessionName.{SessionName}
-use Rattle.row_runs.specs.runs.exec_types.declared.input.Input.{Input}
-use Rattle.row_runs.specs.runs.exec_types.declared.input.Input.TheVariants.{Request}
-use Rattle.row_runs.specs.runs.exec_types.declared.output.Output.{Output}
-use Rattle.row_runs.specs.runs.exec_types.declared.output.Output.TheVariants.{Message, Dispatched, Viewed, Answer}
-use Rattle.row_runs.specs.runs.primary_exec.declared.asking.Asking.{Asking}
-use Rattle.row_runs.specs.runs.primary_exec.Execution.{Execution}
-use Rattle.row_runs.specs.runs.node_core.declared.node.Brought.{Brought}
-use Rattle.row_runs.specs.runs.node_core.declared.journal.Entry.{Entry}
-use Rattle.row_runs.specs.runs.node_core.Step.{NodeState, Stepped, input_row, node_step}
-use Rattle.row_runs.specs.runs.Run.{brought, state, IsRun}
-use Rattle.row_runs.specs.runs.Story.{Point, IsIn, points, points_in, points_of}
-use Rattle.row_runs.proofs.runs.list_laws.All.{all_append}
-use Rattle.row_runs.proofs.runs.list_laws.Members.{IsIn-right, all_member, all_from_members}
-use Rattle.row_runs.proofs.log_runs.LogWorldRuns.{moving}
-use Rattle.row_runs.proofs.lead_runs.LedRuns.{act_life, lives_grow, earlier_run}
-use Rattle.row_runs.proofs.lead_runs.LedAsked.{IsOwn}
-use Rattle.row_runs.proofs.step_runs.PointBranches.{times, heads_of, branches, asked_of, held, IsHeadOf, IsUnused, IsHeld}
-use Rattle.row_runs.proofs.step_runs.PointRuns.{points_rise}
+use Rattle.path_runs.specs.runs.region_map.declared.id.Id.{Id}
+use Rattle.path_runs.specs.runs.region_map.Nodes.{node_id}
+use Rattle.path_runs.specs.runs.region_map.Maps.{Pieced}
+use Rattle.path_runs.specs.runs.branch_history.declared.version.Version.{Version}
+use Rattle.path_runs.specs.runs.register_laws.declared.operation.OpId.{OpId}
+use Rattle.path_runs.specs.runs.register_laws.declared.operation.Op.{Op}
+use Rattle.path_runs.specs.runs.contract_types.Setup.{SetupState, IsSetup}
+use Rattle.path_runs.specs.runs.table_log.Logs.{viewed}
+use Rattle.path_runs.specs.runs.exec_types.declared.message.SessionName.{SessionName}
+use Rattle.path_runs.specs.runs.exec_types.declared.input.Input.{Input}
+use Rattle.path_runs.specs.runs.exec_types.declared.input.Input.TheVariants.{Request}
+use Rattle.path_runs.specs.runs.exec_types.declared.output.Output.{Output}
+use Rattle.path_runs.specs.runs.exec_types.declared.output.Output.TheVariants.{Message, Dispatched, Viewed, Answer}
+use Rattle.path_runs.specs.runs.primary_exec.declared.asking.Asking.{Asking}
+use Rattle.path_runs.specs.runs.primary_exec.Execution.{Execution}
+use Rattle.path_runs.specs.runs.node_core.declared.node.Brought.{Brought}
+use Rattle.path_runs.specs.runs.node_core.declared.journal.Entry.{Entry}
+use Rattle.path_runs.specs.runs.node_core.Step.{NodeState, Stepped, input_row, node_step}
+use Rattle.path_runs.specs.runs.Run.{brought, state, IsRun}
+use Rattle.path_runs.specs.runs.Story.{Point, IsIn, points, points_in, points_of}
+use Rattle.path_runs.proofs.runs.list_laws.All.{all_append}
+use Rattle.path_runs.proofs.runs.list_laws.Members.{IsIn-right, all_member, all_from_members}
+use Rattle.path_runs.proofs.log_runs.LogWorldRuns.{moving}
+use Rattle.path_runs.proofs.lead_runs.LedRuns.{act_life, lives_grow, earlier_run}
+use Rattle.path_runs.proofs.lead_runs.LedAsked.{IsOwn}
+use Rattle.path_runs.proofs.step_runs.PointBranches.{times, heads_of, branches, asked_of, held, IsHeadOf, IsUnused, IsHeld}
+use Rattle.path_runs.proofs.step_runs.PointRuns.{points_rise}
 use Rattle.version_runs.specs.Takings.{HasSync, Takes, Dispatches, Syncs, IsTaken}
 use Rattle.version_runs.proofs.Executions.{GoesOn, WasThere, Starts, row_asks, step_asks, step_there}
 use Rattle.version_runs.proofs.Heads.{head_at, asked_at, counted, asked_counted, one_execution}

@@ -1,30 +1,30 @@
 -- With which versions, executions and followings a table begins: those of the first branches, which begin at 0.
 use Rattle.std.proofs.Common.{◌≡◌, ℕ, ◌+◌, ◌<◌, ◌==◌, true, false, cond, List, [], ◌∷◌, ◌++◌, Some, inl, inr, refl, sym, ap, ◌∙◌, subst, arith}
 use Rattle.std.proofs.lemmas.Bool.{cond_both, eq-eqb}
-use Rattle.row_runs.specs.runs.region_map.declared.id.Id.{Id}
-use Rattle.row_runs.specs.runs.region_map.declared.id.NodeId.{NodeId}
-use Rattle.row_runs.specs.runs.region_map.Equal.{same_id}
-use Rattle.row_runs.specs.runs.region_map.Nodes.{node_id, has}
-use Rattle.row_runs.specs.runs.region_map.Maps.{Pieced}
-use Rattle.row_runs.specs.runs.branch_history.declared.version.Version.{Version}
-use Rattle.row_runs.specs.runs.branch_history.declared.history.BranchBirth.{BranchBirth}
-use Rattle.row_runs.specs.runs.branch_history.Histories.{birth_of}
-use Rattle.row_runs.specs.runs.branch_history.Paths.{Branches, zero}
-use Rattle.row_runs.proofs.runs.branch_history.PathLaws.{id_self}
-use Rattle.row_runs.specs.runs.contract_types.declared.config.ShardConfig.{ShardConfig}
-use Rattle.row_runs.specs.runs.contract_types.Setup.{SetupState}
-use Rattle.row_runs.specs.runs.contract_types.Tables.{setup_id, first_id, first_birth, first_contract, first_branches}
-use Rattle.row_runs.specs.runs.exec_types.Sessions.{setup_session_name}
-use Rattle.row_runs.specs.runs.store_api.Versions.{point, replaced_map, zero_map}
-use Rattle.row_runs.proofs.runs.store_api.VersionMaps.{zero_map_hashes, zero_map_at}
-use Rattle.row_runs.specs.runs.secondary_exec.declared.following.Following.{Following}
-use Rattle.row_runs.specs.runs.secondary_exec.Stream.{setup_following}
-use Rattle.row_runs.specs.runs.primary_exec.declared.session.Session.{Session}
-use Rattle.row_runs.specs.runs.primary_exec.Execution.{Execution, joined, begun, join_all, setup_execution}
-use Rattle.row_runs.specs.runs.node_core.Step.{is_led, is_followed, executions_from, followings_from, versions_from}
-use Rattle.row_runs.specs.runs.Story.{IsIn}
-use Rattle.row_runs.proofs.runs.list_laws.Members.{IsIn-append}
-use Rattle.row_runs.proofs.step_runs.Setups.{setup_branch}
+use Rattle.path_runs.specs.runs.region_map.declared.id.Id.{Id}
+use Rattle.path_runs.specs.runs.region_map.declared.id.NodeId.{NodeId}
+use Rattle.path_runs.specs.runs.region_map.Equal.{same_id}
+use Rattle.path_runs.specs.runs.region_map.Nodes.{node_id, has}
+use Rattle.path_runs.specs.runs.region_map.Maps.{Pieced}
+use Rattle.path_runs.specs.runs.branch_history.declared.version.Version.{Version}
+use Rattle.path_runs.specs.runs.branch_history.declared.history.BranchBirth.{BranchBirth}
+use Rattle.path_runs.specs.runs.branch_history.Histories.{birth_of}
+use Rattle.path_runs.specs.runs.branch_history.Paths.{Branches, zero}
+use Rattle.path_runs.proofs.runs.branch_history.PathLaws.{id_self}
+use Rattle.path_runs.specs.runs.contract_types.declared.config.ShardConfig.{ShardConfig}
+use Rattle.path_runs.specs.runs.contract_types.Setup.{SetupState}
+use Rattle.path_runs.specs.runs.contract_types.Tables.{setup_id, first_id, first_birth, first_contract, first_branches}
+use Rattle.path_runs.specs.runs.exec_types.Sessions.{setup_session_name}
+use Rattle.path_runs.specs.runs.store_api.Versions.{point, replaced_map, zero_map}
+use Rattle.path_runs.proofs.runs.store_api.VersionMaps.{zero_map_hashes, zero_map_at}
+use Rattle.path_runs.specs.runs.secondary_exec.declared.following.Following.{Following}
+use Rattle.path_runs.specs.runs.secondary_exec.Stream.{setup_following}
+use Rattle.path_runs.specs.runs.primary_exec.declared.session.Session.{Session}
+use Rattle.path_runs.specs.runs.primary_exec.Execution.{Execution, joined, begun, join_all, setup_execution}
+use Rattle.path_runs.specs.runs.node_core.Step.{is_led, is_followed, executions_from, followings_from, versions_from}
+use Rattle.path_runs.specs.runs.Story.{IsIn}
+use Rattle.path_runs.proofs.runs.list_laws.Members.{IsIn-append}
+use Rattle.path_runs.proofs.step_runs.Setups.{setup_branch}
 use Rattle.version_runs.proofs.TracedSteps.{some_inner, MapTraced, Follows, replaced_traced}
 
 -- the branches with which shards begin, by the shards' places

@@ -3,62 +3,62 @@ use Rattle.std.proofs.Common.{◌≡◌, ◌⊎◌, ℕ, zero, suc, ◌+◌, ◌
 use Rattle.std.proofs.Math.Nat.{mod-lt}
 use Rattle.std.proofs.lemmas.Bool.{cond_both, and_parts, eqb-true, eq-eqb, cases_Bool, both_ways}
 use Rattle.std.specs.List.{AllByRecursion}
-use Rattle.row_runs.specs.runs.region_map.declared.id.Id.{Id}
-use Rattle.row_runs.specs.runs.region_map.declared.id.NodeId.{NodeId}
-use Rattle.row_runs.specs.runs.region_map.declared.region.Region.{Region}
-use Rattle.row_runs.specs.runs.region_map.Keys.{hash_of}
-use Rattle.row_runs.specs.runs.region_map.Maps.{Pieced}
-use Rattle.row_runs.specs.runs.region_map.Made.{mask_map}
-use Rattle.row_runs.specs.runs.branch_history.declared.version.Version.{Version}
-use Rattle.row_runs.specs.runs.branch_history.declared.history.BranchBirth.{BranchBirth}
-use Rattle.row_runs.specs.runs.branch_history.Equal.{same_version}
-use Rattle.row_runs.specs.runs.branch_history.Histories.{birth_of}
-use Rattle.row_runs.specs.runs.raft_vote.declared.log.LogEntry.{LogEntry}
-use Rattle.row_runs.specs.runs.raft_vote.declared.message.RaftMessage.{RaftMessage}
-use Rattle.row_runs.specs.runs.raft_vote.declared.message.RaftMessage.TheVariants.{VoteAsk, VoteSay, Append, AppendSay}
-use Rattle.row_runs.specs.runs.register_laws.declared.operation.OpId.{OpId}
-use Rattle.row_runs.specs.runs.register_laws.declared.operation.Op.{Op}
-use Rattle.row_runs.specs.runs.contract_types.Setup.{SetupState, IsSetup}
-use Rattle.row_runs.specs.runs.contract_types.Tables.{Table}
-use Rattle.row_runs.specs.runs.contract_types.declared.ack.Ack.{Ack}
-use Rattle.row_runs.specs.runs.contract_types.declared.ack.Ack.TheVariants.{NeedBranch, InProgress, Ready, NeedPrimary, Backfilling, Streaming}
-use Rattle.row_runs.specs.runs.contract_types.declared.change.Change.{Change}
-use Rattle.row_runs.specs.runs.contract_types.declared.change.Change.TheVariants.{Noop, SetConfig, NewContracts, RegisterBranch}
-use Rattle.row_runs.specs.runs.contract_types.declared.results.Viewed.{Viewed as Results}
-use Rattle.row_runs.specs.runs.table_log.Logs.{table_of, viewed}
-use Rattle.row_runs.specs.runs.exec_types.Parts.{timestamp_of}
-use Rattle.row_runs.specs.runs.exec_types.Sessions.{same_session}
-use Rattle.row_runs.specs.runs.exec_types.declared.input.Input.{Input}
-use Rattle.row_runs.specs.runs.exec_types.declared.input.Input.TheVariants.{Request, GiveUp, See, Tick, Deliver, Crash, Restart}
-use Rattle.row_runs.specs.runs.exec_types.declared.message.Message.{Message as Sent}
-use Rattle.row_runs.specs.runs.exec_types.declared.message.Message.TheVariants as message
-use Rattle.row_runs.specs.runs.exec_types.declared.message.SessionName.{SessionName}
-use Rattle.row_runs.specs.runs.exec_types.declared.message.Stream.{Stream}
-use Rattle.row_runs.specs.runs.exec_types.declared.output.Output.{Output}
-use Rattle.row_runs.specs.runs.exec_types.declared.output.Output.TheVariants.{Message, Dispatched, Viewed, Answer}
-use Rattle.row_runs.specs.runs.store_api.Versions.{point, version_of, zero_map}
-use Rattle.row_runs.specs.runs.secondary_exec.declared.following.Following.{Following}
-use Rattle.row_runs.specs.runs.secondary_exec.Stream.{is_ours}
-use Rattle.row_runs.specs.runs.primary_exec.declared.asking.Asking.{Asking}
-use Rattle.row_runs.specs.runs.primary_exec.declared.session.Session.{Session}
-use Rattle.row_runs.specs.runs.primary_exec.Execution.{Execution, started, decided}
-use Rattle.row_runs.specs.runs.node_core.declared.node.Brought.{Brought}
-use Rattle.row_runs.specs.runs.node_core.declared.journal.Entry.{Entry}
-use Rattle.row_runs.specs.runs.node_core.Parts.{decide_all_outs}
-use Rattle.row_runs.specs.runs.node_core.Starting.{initial_of, is_current, due}
-use Rattle.row_runs.specs.runs.node_core.Step.{NodeState, Stepped, input_row, act_on, act, node_step}
-use Rattle.row_runs.specs.runs.declared.envelope.Envelope.{Envelope}
-use Rattle.row_runs.specs.runs.Committed.{IsEarlier}
-use Rattle.row_runs.specs.runs.Run.{sent_by, sent, message_at, opened, brought, state, IsRun}
-use Rattle.row_runs.specs.runs.Story.{IsIn}
-use Rattle.row_runs.proofs.runs.list_laws.All.{all_append, all_weaker}
-use Rattle.row_runs.proofs.runs.list_laws.Members.{IsIn-left, all_member}
-use Rattle.row_runs.proofs.step_runs.Runs.{some_hash}
-use Rattle.row_runs.proofs.change_runs.Asked.{Asked, IsAsked}
-use Rattle.row_runs.proofs.change_runs.AskedRuns.{AskedUnder, asked_facts, registered_asked}
-use Rattle.row_runs.proofs.change_runs.AskedRunsSteps.{ClaimsSent}
-use Rattle.row_runs.proofs.lead_runs.LedAsked.{IsOwn}
-use Rattle.row_runs.proofs.lead_runs.LedRuns.{earlier_run, run_roles}
+use Rattle.path_runs.specs.runs.region_map.declared.id.Id.{Id}
+use Rattle.path_runs.specs.runs.region_map.declared.id.NodeId.{NodeId}
+use Rattle.path_runs.specs.runs.region_map.declared.region.Region.{Region}
+use Rattle.path_runs.specs.runs.region_map.Keys.{hash_of}
+use Rattle.path_runs.specs.runs.region_map.Maps.{Pieced}
+use Rattle.path_runs.specs.runs.region_map.Made.{mask_map}
+use Rattle.path_runs.specs.runs.branch_history.declared.version.Version.{Version}
+use Rattle.path_runs.specs.runs.branch_history.declared.history.BranchBirth.{BranchBirth}
+use Rattle.path_runs.specs.runs.branch_history.Equal.{same_version}
+use Rattle.path_runs.specs.runs.branch_history.Histories.{birth_of}
+use Rattle.path_runs.specs.runs.raft_vote.declared.log.LogEntry.{LogEntry}
+use Rattle.path_runs.specs.runs.raft_vote.declared.message.RaftMessage.{RaftMessage}
+use Rattle.path_runs.specs.runs.raft_vote.declared.message.RaftMessage.TheVariants.{VoteAsk, VoteSay, Append, AppendSay}
+use Rattle.path_runs.specs.runs.register_laws.declared.operation.OpId.{OpId}
+use Rattle.path_runs.specs.runs.register_laws.declared.operation.Op.{Op}
+use Rattle.path_runs.specs.runs.contract_types.Setup.{SetupState, IsSetup}
+use Rattle.path_runs.specs.runs.contract_types.Tables.{Table}
+use Rattle.path_runs.specs.runs.contract_types.declared.ack.Ack.{Ack}
+use Rattle.path_runs.specs.runs.contract_types.declared.ack.Ack.TheVariants.{NeedBranch, InProgress, Ready, NeedPrimary, Backfilling, Streaming}
+use Rattle.path_runs.specs.runs.contract_types.declared.change.Change.{Change}
+use Rattle.path_runs.specs.runs.contract_types.declared.change.Change.TheVariants.{Noop, SetConfig, NewContracts, RegisterBranch}
+use Rattle.path_runs.specs.runs.contract_types.declared.results.Viewed.{Viewed as Results}
+use Rattle.path_runs.specs.runs.table_log.Logs.{table_of, viewed}
+use Rattle.path_runs.specs.runs.exec_types.Parts.{timestamp_of}
+use Rattle.path_runs.specs.runs.exec_types.Sessions.{same_session}
+use Rattle.path_runs.specs.runs.exec_types.declared.input.Input.{Input}
+use Rattle.path_runs.specs.runs.exec_types.declared.input.Input.TheVariants.{Request, GiveUp, See, Tick, Deliver, Crash, Restart}
+use Rattle.path_runs.specs.runs.exec_types.declared.message.Message.{Message as Sent}
+use Rattle.path_runs.specs.runs.exec_types.declared.message.Message.TheVariants as message
+use Rattle.path_runs.specs.runs.exec_types.declared.message.SessionName.{SessionName}
+use Rattle.path_runs.specs.runs.exec_types.declared.message.Stream.{Stream}
+use Rattle.path_runs.specs.runs.exec_types.declared.output.Output.{Output}
+use Rattle.path_runs.specs.runs.exec_types.declared.output.Output.TheVariants.{Message, Dispatched, Viewed, Answer}
+use Rattle.path_runs.specs.runs.store_api.Versions.{point, version_of, zero_map}
+use Rattle.path_runs.specs.runs.secondary_exec.declared.following.Following.{Following}
+use Rattle.path_runs.specs.runs.secondary_exec.Stream.{is_ours}
+use Rattle.path_runs.specs.runs.primary_exec.declared.asking.Asking.{Asking}
+use Rattle.path_runs.specs.runs.primary_exec.declared.session.Session.{Session}
+use Rattle.path_runs.specs.runs.primary_exec.Execution.{Execution, started, decided}
+use Rattle.path_runs.specs.runs.node_core.declared.node.Brought.{Brought}
+use Rattle.path_runs.specs.runs.node_core.declared.journal.Entry.{Entry}
+use Rattle.path_runs.specs.runs.node_core.Parts.{decide_all_outs}
+use Rattle.path_runs.specs.runs.node_core.Starting.{initial_of, is_current, due}
+use Rattle.path_runs.specs.runs.node_core.Step.{NodeState, Stepped, input_row, act_on, act, node_step}
+use Rattle.path_runs.specs.runs.declared.envelope.Envelope.{Envelope}
+use Rattle.path_runs.specs.runs.Committed.{IsEarlier}
+use Rattle.path_runs.specs.runs.Run.{sent_by, sent, message_at, opened, brought, state, IsRun}
+use Rattle.path_runs.specs.runs.Story.{IsIn}
+use Rattle.path_runs.proofs.runs.list_laws.All.{all_append, all_weaker}
+use Rattle.path_runs.proofs.runs.list_laws.Members.{IsIn-left, all_member}
+use Rattle.path_runs.proofs.step_runs.Runs.{some_hash}
+use Rattle.path_runs.proofs.change_runs.Asked.{Asked, IsAsked}
+use Rattle.path_runs.proofs.change_runs.AskedRuns.{AskedUnder, asked_facts, registered_asked}
+use Rattle.path_runs.proofs.change_runs.AskedRunsSteps.{ClaimsSent}
+use Rattle.path_runs.proofs.lead_runs.LedAsked.{IsOwn}
+use Rattle.path_runs.proofs.lead_runs.LedRuns.{earlier_run, run_roles}
 use Rattle.version_runs.specs.Takings.{HasSync, Takes, Dispatches, Syncs, IsTaken}
 use Rattle.version_runs.specs.Traced.{IsStarted, IsPointOf, IsTraced}
 use Rattle.version_runs.specs.Carried.{Gives, GivesOrigin, HasOrigin, RaftCarries, Reports, Streams, Joins, IsSessionOf, IsInSession, CarriesAt, Carries}

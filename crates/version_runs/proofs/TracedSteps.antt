@@ -1,52 +1,52 @@
 -- What a step does to the versions of a node and to its followings, where each new version is one that may be there.
 use Rattle.std.proofs.Common.{◌≡◌, ◌⊎◌, ℕ, ◌+◌, ◌≤◌, ◌<◌, ◌==◌, ◌&&◌, true, false, cond, List, [], ◌∷◌, ◌++◌, map, filter, nat_le, Option, Some, None, is_some, inl, inr, refl, sym, ap, ◌∙◌, subst, arith}
 use Rattle.std.proofs.lemmas.Bool.{cond_both, cases_lt, and_parts}
-use Rattle.row_runs.specs.runs.region_map.declared.id.Id.{Id}
-use Rattle.row_runs.specs.runs.region_map.declared.id.NodeId.{NodeId}
-use Rattle.row_runs.specs.runs.region_map.declared.region.Region.{Region}
-use Rattle.row_runs.specs.runs.region_map.Equal.{same_id}
-use Rattle.row_runs.specs.runs.region_map.Regions.{in_region}
-use Rattle.row_runs.specs.runs.region_map.Maps.{Pieced, value_at}
-use Rattle.row_runs.specs.runs.region_map.Made.{ends_of, cuts_of, mask_map}
-use Rattle.row_runs.proofs.runs.region_map.Made.{made_hashes, made_canonical, mask_changes}
-use Rattle.row_runs.proofs.runs.region_map.Bands.{none_beyond}
-use Rattle.row_runs.specs.runs.branch_history.declared.version.Version.{Version}
-use Rattle.row_runs.specs.runs.branch_history.Equal.{same_version, version_decides}
-use Rattle.row_runs.specs.runs.branch_history.Paths.{zero}
-use Rattle.row_runs.proofs.runs.branch_history.PathLaws.{id_same}
-use Rattle.row_runs.specs.runs.register_laws.declared.operation.OpId.{OpId}
-use Rattle.row_runs.specs.runs.register_laws.declared.operation.Op.{Op}
-use Rattle.row_runs.specs.runs.contract_types.declared.contract.Contract.{Contract}
-use Rattle.row_runs.specs.runs.contract_types.declared.results.Viewed.{Viewed as Results}
-use Rattle.row_runs.specs.runs.contract_types.Tables.{Table}
-use Rattle.row_runs.specs.runs.coordinator.Acks.{with_ack}
-use Rattle.row_runs.specs.runs.coordinator.Proposals.{proposals_of, after_proposals}
-use Rattle.row_runs.specs.runs.table_log.Logs.{table_of, caught_up, viewed}
-use Rattle.row_runs.specs.runs.exec_types.Parts.{timestamp_of}
-use Rattle.row_runs.specs.runs.exec_types.Sessions.{same_session}
-use Rattle.row_runs.specs.runs.exec_types.declared.message.Message.{Message as Sent}
-use Rattle.row_runs.specs.runs.exec_types.declared.message.Message.TheVariants as message
-use Rattle.row_runs.specs.runs.exec_types.declared.message.SessionName.{SessionName}
-use Rattle.row_runs.specs.runs.exec_types.declared.message.Stream.{Stream}
-use Rattle.row_runs.specs.runs.exec_types.declared.input.Input.{Input}
-use Rattle.row_runs.specs.runs.exec_types.declared.input.Input.TheVariants.{Request, GiveUp, See, Tick, Deliver, Crash, Restart}
-use Rattle.row_runs.specs.runs.exec_types.declared.output.Output.{Output}
-use Rattle.row_runs.specs.runs.exec_types.declared.output.Output.TheVariants.{Dispatched}
-use Rattle.row_runs.specs.runs.store_api.Rows.{Rows, value_of}
-use Rattle.row_runs.specs.runs.store_api.Versions.{point, is_behind, advanced_map, replaced_map}
-use Rattle.row_runs.proofs.runs.store_api.VersionMaps.{advanced_map_hashes, advanced_map_at, replaced_map_hashes, replaced_map_at}
-use Rattle.row_runs.specs.runs.secondary_exec.declared.following.Following.{Following}
-use Rattle.row_runs.specs.runs.secondary_exec.Stream.{FollowingStep, is_ours, stream_row, applied}
-use Rattle.row_runs.specs.runs.primary_exec.declared.asking.Asking.{Asking}
-use Rattle.row_runs.specs.runs.primary_exec.Execution.{Execution, PrimaryStep, has_room, sends, part_of, dispatch_row, started, started_versions}
-use Rattle.row_runs.specs.runs.node_core.declared.node.Brought.{Brought}
-use Rattle.row_runs.specs.runs.node_core.Parts.{Requested, Streamed, is_for, dispatched, passed_on, request_all, taken, left_alone, stream_all}
-use Rattle.row_runs.specs.runs.node_core.Starting.{Starting, due, start_one, start_each}
-use Rattle.row_runs.specs.runs.node_core.Step.{NodeState, Stepped, silent, leads, coordinates, propose_all, tick_row, message_row, is_well_formed, brought_row, input_row, act_on, act, node_step}
-use Rattle.row_runs.specs.runs.Story.{IsIn}
-use Rattle.row_runs.proofs.runs.list_laws.Members.{IsIn-right}
-use Rattle.row_runs.proofs.change_runs.LedMaps.{mask_at}
-use Rattle.row_runs.proofs.step_runs.Outs.{stream_cases}
+use Rattle.path_runs.specs.runs.region_map.declared.id.Id.{Id}
+use Rattle.path_runs.specs.runs.region_map.declared.id.NodeId.{NodeId}
+use Rattle.path_runs.specs.runs.region_map.declared.region.Region.{Region}
+use Rattle.path_runs.specs.runs.region_map.Equal.{same_id}
+use Rattle.path_runs.specs.runs.region_map.Regions.{in_region}
+use Rattle.path_runs.specs.runs.region_map.Maps.{Pieced, value_at}
+use Rattle.path_runs.specs.runs.region_map.Made.{ends_of, cuts_of, mask_map}
+use Rattle.path_runs.proofs.runs.region_map.Made.{made_hashes, made_canonical, mask_changes}
+use Rattle.path_runs.proofs.runs.region_map.Bands.{none_beyond}
+use Rattle.path_runs.specs.runs.branch_history.declared.version.Version.{Version}
+use Rattle.path_runs.specs.runs.branch_history.Equal.{same_version, version_decides}
+use Rattle.path_runs.specs.runs.branch_history.Paths.{zero}
+use Rattle.path_runs.proofs.runs.branch_history.PathLaws.{id_same}
+use Rattle.path_runs.specs.runs.register_laws.declared.operation.OpId.{OpId}
+use Rattle.path_runs.specs.runs.register_laws.declared.operation.Op.{Op}
+use Rattle.path_runs.specs.runs.contract_types.declared.contract.Contract.{Contract}
+use Rattle.path_runs.specs.runs.contract_types.declared.results.Viewed.{Viewed as Results}
+use Rattle.path_runs.specs.runs.contract_types.Tables.{Table}
+use Rattle.path_runs.specs.runs.coordinator.Acks.{with_ack}
+use Rattle.path_runs.specs.runs.coordinator.Proposals.{proposals_of, after_proposals}
+use Rattle.path_runs.specs.runs.table_log.Logs.{table_of, caught_up, viewed}
+use Rattle.path_runs.specs.runs.exec_types.Parts.{timestamp_of}
+use Rattle.path_runs.specs.runs.exec_types.Sessions.{same_session}
+use Rattle.path_runs.specs.runs.exec_types.declared.message.Message.{Message as Sent}
+use Rattle.path_runs.specs.runs.exec_types.declared.message.Message.TheVariants as message
+use Rattle.path_runs.specs.runs.exec_types.declared.message.SessionName.{SessionName}
+use Rattle.path_runs.specs.runs.exec_types.declared.message.Stream.{Stream}
+use Rattle.path_runs.specs.runs.exec_types.declared.input.Input.{Input}
+use Rattle.path_runs.specs.runs.exec_types.declared.input.Input.TheVariants.{Request, GiveUp, See, Tick, Deliver, Crash, Restart}
+use Rattle.path_runs.specs.runs.exec_types.declared.output.Output.{Output}
+use Rattle.path_runs.specs.runs.exec_types.declared.output.Output.TheVariants.{Dispatched}
+use Rattle.path_runs.specs.runs.store_api.Rows.{Rows, value_of}
+use Rattle.path_runs.specs.runs.store_api.Versions.{point, is_behind, advanced_map, replaced_map}
+use Rattle.path_runs.proofs.runs.store_api.VersionMaps.{advanced_map_hashes, advanced_map_at, replaced_map_hashes, replaced_map_at}
+use Rattle.path_runs.specs.runs.secondary_exec.declared.following.Following.{Following}
+use Rattle.path_runs.specs.runs.secondary_exec.Stream.{FollowingStep, is_ours, stream_row, applied}
+use Rattle.path_runs.specs.runs.primary_exec.declared.asking.Asking.{Asking}
+use Rattle.path_runs.specs.runs.primary_exec.Execution.{Execution, PrimaryStep, has_room, sends, part_of, dispatch_row, started, started_versions}
+use Rattle.path_runs.specs.runs.node_core.declared.node.Brought.{Brought}
+use Rattle.path_runs.specs.runs.node_core.Parts.{Requested, Streamed, is_for, dispatched, passed_on, request_all, taken, left_alone, stream_all}
+use Rattle.path_runs.specs.runs.node_core.Starting.{Starting, due, start_one, start_each}
+use Rattle.path_runs.specs.runs.node_core.Step.{NodeState, Stepped, silent, leads, coordinates, propose_all, tick_row, message_row, is_well_formed, brought_row, input_row, act_on, act, node_step}
+use Rattle.path_runs.specs.runs.Story.{IsIn}
+use Rattle.path_runs.proofs.runs.list_laws.Members.{IsIn-right}
+use Rattle.path_runs.proofs.change_runs.LedMaps.{mask_at}
+use Rattle.path_runs.proofs.step_runs.Outs.{stream_cases}
 use Rattle.version_runs.proofs.Executions.{each_starts}
 
 pub some_inner : {A : Type 0} (a b : A) → Some a ≡ Some b → a ≡ b

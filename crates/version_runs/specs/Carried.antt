@@ -1,29 +1,29 @@
 -- Which versions a message carries, and which ones a change of the log.
 use Rattle.std.specs.Prelude.{◌≡◌, ◌⊎◌, ℕ, List, Some}
-use Rattle.row_runs.specs.runs.region_map.declared.id.Id.{Id}
-use Rattle.row_runs.specs.runs.region_map.Maps.{Pieced, value_at}
-use Rattle.row_runs.specs.runs.branch_history.declared.version.Version.{Version}
-use Rattle.row_runs.specs.runs.raft_vote.declared.log.LogEntry.{LogEntry}
-use Rattle.row_runs.specs.runs.raft_vote.declared.message.RaftMessage.{RaftMessage}
-use Rattle.row_runs.specs.runs.raft_vote.declared.message.RaftMessage.TheVariants.{VoteAsk, VoteSay, Append, AppendSay}
-use Rattle.row_runs.specs.runs.contract_types.Setup.{SetupState}
-use Rattle.row_runs.specs.runs.contract_types.declared.ack.Ack.{Ack}
-use Rattle.row_runs.specs.runs.contract_types.declared.ack.Ack.TheVariants.{NeedBranch, InProgress, Ready, NeedPrimary, Backfilling, Streaming}
-use Rattle.row_runs.specs.runs.contract_types.declared.change.Change.{Change}
-use Rattle.row_runs.specs.runs.contract_types.declared.change.Change.TheVariants.{Noop, SetConfig, NewContracts, RegisterBranch}
-use Rattle.row_runs.specs.runs.exec_types.Parts.{timestamp_of}
-use Rattle.row_runs.specs.runs.exec_types.declared.message.Message.{Message}
-use Rattle.row_runs.specs.runs.exec_types.declared.message.Message.TheVariants as message
-use Rattle.row_runs.specs.runs.exec_types.declared.message.SessionName.{SessionName}
-use Rattle.row_runs.specs.runs.store_api.Versions.{point}
-use Rattle.row_runs.specs.runs.primary_exec.Execution.{Execution}
-use Rattle.row_runs.specs.runs.primary_exec.declared.session.Session.{Session}
-use Rattle.row_runs.specs.runs.secondary_exec.declared.following.Following.{Following}
-use Rattle.row_runs.specs.runs.node_core.declared.journal.Entry.{Entry}
-use Rattle.row_runs.specs.runs.node_core.Step.{NodeState}
-use Rattle.row_runs.specs.runs.Committed.{IsEarlier}
-use Rattle.row_runs.specs.runs.Run.{state}
-use Rattle.row_runs.specs.runs.Story.{IsIn}
+use Rattle.path_runs.specs.runs.region_map.declared.id.Id.{Id}
+use Rattle.path_runs.specs.runs.region_map.Maps.{Pieced, value_at}
+use Rattle.path_runs.specs.runs.branch_history.declared.version.Version.{Version}
+use Rattle.path_runs.specs.runs.raft_vote.declared.log.LogEntry.{LogEntry}
+use Rattle.path_runs.specs.runs.raft_vote.declared.message.RaftMessage.{RaftMessage}
+use Rattle.path_runs.specs.runs.raft_vote.declared.message.RaftMessage.TheVariants.{VoteAsk, VoteSay, Append, AppendSay}
+use Rattle.path_runs.specs.runs.contract_types.Setup.{SetupState}
+use Rattle.path_runs.specs.runs.contract_types.declared.ack.Ack.{Ack}
+use Rattle.path_runs.specs.runs.contract_types.declared.ack.Ack.TheVariants.{NeedBranch, InProgress, Ready, NeedPrimary, Backfilling, Streaming}
+use Rattle.path_runs.specs.runs.contract_types.declared.change.Change.{Change}
+use Rattle.path_runs.specs.runs.contract_types.declared.change.Change.TheVariants.{Noop, SetConfig, NewContracts, RegisterBranch}
+use Rattle.path_runs.specs.runs.exec_types.Parts.{timestamp_of}
+use Rattle.path_runs.specs.runs.exec_types.declared.message.Message.{Message}
+use Rattle.path_runs.specs.runs.exec_types.declared.message.Message.TheVariants as message
+use Rattle.path_runs.specs.runs.exec_types.declared.message.SessionName.{SessionName}
+use Rattle.path_runs.specs.runs.store_api.Versions.{point}
+use Rattle.path_runs.specs.runs.primary_exec.Execution.{Execution}
+use Rattle.path_runs.specs.runs.primary_exec.declared.session.Session.{Session}
+use Rattle.path_runs.specs.runs.secondary_exec.declared.following.Following.{Following}
+use Rattle.path_runs.specs.runs.node_core.declared.journal.Entry.{Entry}
+use Rattle.path_runs.specs.runs.node_core.Step.{NodeState}
+use Rattle.path_runs.specs.runs.Committed.{IsEarlier}
+use Rattle.path_runs.specs.runs.Run.{state}
+use Rattle.path_runs.specs.runs.Story.{IsIn}
 
 -- ---- maps
 

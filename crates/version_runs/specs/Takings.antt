@@ -1,14 +1,14 @@
 -- Which timestamps of branches the entries of a run take, for operations and for syncs.
 use Rattle.std.specs.Prelude.{◌≡◌, ◌⊎◌, ℕ, List, [], ◌∷◌, Some}
-use Rattle.row_runs.specs.runs.region_map.declared.id.Id.{Id}
-use Rattle.row_runs.specs.runs.register_laws.declared.operation.OpId.{OpId}
-use Rattle.row_runs.specs.runs.contract_types.Setup.{SetupState}
-use Rattle.row_runs.specs.runs.exec_types.declared.output.Output.TheVariants.{Dispatched}
-use Rattle.row_runs.specs.runs.primary_exec.Execution.{Execution}
-use Rattle.row_runs.specs.runs.node_core.declared.journal.Entry.{Entry}
-use Rattle.row_runs.specs.runs.node_core.Step.{NodeState}
-use Rattle.row_runs.specs.runs.Run.{state}
-use Rattle.row_runs.specs.runs.Story.{IsIn}
+use Rattle.path_runs.specs.runs.region_map.declared.id.Id.{Id}
+use Rattle.path_runs.specs.runs.register_laws.declared.operation.OpId.{OpId}
+use Rattle.path_runs.specs.runs.contract_types.Setup.{SetupState}
+use Rattle.path_runs.specs.runs.exec_types.declared.output.Output.TheVariants.{Dispatched}
+use Rattle.path_runs.specs.runs.primary_exec.Execution.{Execution}
+use Rattle.path_runs.specs.runs.node_core.declared.journal.Entry.{Entry}
+use Rattle.path_runs.specs.runs.node_core.Step.{NodeState}
+use Rattle.path_runs.specs.runs.Run.{state}
+use Rattle.path_runs.specs.runs.Story.{IsIn}
 
 -- a node has an execution of the branch whose sync, under its contract, took this timestamp
 pub record HasSync (s : NodeState) (branch : Id) (at : ℕ) : Type 0 where

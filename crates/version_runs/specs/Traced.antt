@@ -1,18 +1,18 @@
 -- Versions that can be traced to their branch's maker: it started the branch, and the timestamp is the first one of the
 -- branch, or was taken before.
 use Rattle.std.specs.Prelude.{◌≡◌, ◌⊎◌, ℕ, List, Some}
-use Rattle.row_runs.specs.runs.region_map.declared.id.Id.{Id}
-use Rattle.row_runs.specs.runs.branch_history.declared.version.Version.{Version}
-use Rattle.row_runs.specs.runs.branch_history.declared.history.BranchBirth.{BranchBirth}
-use Rattle.row_runs.specs.runs.branch_history.Histories.{birth_of}
-use Rattle.row_runs.specs.runs.branch_history.Paths.{zero}
-use Rattle.row_runs.specs.runs.contract_types.Setup.{SetupState}
-use Rattle.row_runs.specs.runs.table_log.Logs.{table_of}
-use Rattle.row_runs.specs.runs.primary_exec.Execution.{Execution}
-use Rattle.row_runs.specs.runs.node_core.declared.journal.Entry.{Entry}
-use Rattle.row_runs.specs.runs.Committed.{IsEarlier}
-use Rattle.row_runs.specs.runs.Run.{state}
-use Rattle.row_runs.specs.runs.Story.{IsIn}
+use Rattle.path_runs.specs.runs.region_map.declared.id.Id.{Id}
+use Rattle.path_runs.specs.runs.branch_history.declared.version.Version.{Version}
+use Rattle.path_runs.specs.runs.branch_history.declared.history.BranchBirth.{BranchBirth}
+use Rattle.path_runs.specs.runs.branch_history.Histories.{birth_of}
+use Rattle.path_runs.specs.runs.branch_history.Paths.{zero}
+use Rattle.path_runs.specs.runs.contract_types.Setup.{SetupState}
+use Rattle.path_runs.specs.runs.table_log.Logs.{table_of}
+use Rattle.path_runs.specs.runs.primary_exec.Execution.{Execution}
+use Rattle.path_runs.specs.runs.node_core.declared.journal.Entry.{Entry}
+use Rattle.path_runs.specs.runs.Committed.{IsEarlier}
+use Rattle.path_runs.specs.runs.Run.{state}
+use Rattle.path_runs.specs.runs.Story.{IsIn}
 use Rattle.version_runs.specs.Takings.{IsTaken}
 
 -- the maker of a branch had an execution of it at some moment, in the life in which it made the branch, and knew it

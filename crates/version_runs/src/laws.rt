@@ -1,21 +1,24 @@
 //! Versions and timestamps, wherever they stand in a run. Nodes tick, go down and come up, and messages come in any order,
 //! again and again, or never.
-ghost use Rattle.std.specs.Prelude.{◌≡◌, ◌<◌, ℕ, List, Some, true, ◌∷◌, ◌++◌};
-ghost use Rattle.row_runs.specs.runs.region_map.declared.id.Id.{Id};
-ghost use Rattle.row_runs.specs.runs.region_map.Keys.{hash_of};
-ghost use Rattle.row_runs.specs.runs.branch_history.declared.version.Version.{Version};
-ghost use Rattle.row_runs.specs.runs.branch_history.Histories.{IsInTime};
-ghost use Rattle.row_runs.specs.runs.raft_vote.declared.log.LogEntry.{LogEntry};
-ghost use Rattle.row_runs.specs.runs.contract_types.Setup.{SetupState, IsSetup};
-ghost use Rattle.row_runs.specs.runs.contract_types.declared.change.Change.{Change};
-ghost use Rattle.row_runs.specs.runs.table_log.Logs.{table_of};
-ghost use Rattle.row_runs.specs.runs.store_api.Versions.{version_of};
-ghost use Rattle.row_runs.specs.runs.node_core.declared.journal.Entry.{Entry};
-ghost use Rattle.row_runs.specs.runs.declared.envelope.Envelope.{Envelope};
-ghost use Rattle.row_runs.specs.runs.Latest.{told_table};
-ghost use Rattle.row_runs.specs.runs.Run.{IsRun, state, sent};
-ghost use Rattle.row_runs.specs.runs.Story.{IsIn};
+ghost use Rattle.std.specs.Prelude.{◌≡◌, ◌⊎◌, ◌<◌, ℕ, List, Some, true, ◌∷◌, ◌++◌};
+ghost use Rattle.path_runs.specs.runs.region_map.declared.id.Id.{Id};
+ghost use Rattle.path_runs.specs.runs.region_map.Keys.{hash_of};
+ghost use Rattle.path_runs.specs.runs.branch_history.declared.version.Version.{Version};
+ghost use Rattle.path_runs.specs.runs.branch_history.declared.history.BranchBirth.{BranchBirth};
+ghost use Rattle.path_runs.specs.runs.branch_history.Histories.{birth_of, IsInTime};
+ghost use Rattle.path_runs.specs.runs.raft_vote.declared.log.LogEntry.{LogEntry};
+ghost use Rattle.path_runs.specs.runs.contract_types.Setup.{SetupState, IsSetup};
+ghost use Rattle.path_runs.specs.runs.contract_types.declared.change.Change.{Change};
+ghost use Rattle.path_runs.specs.runs.table_log.Logs.{table_of};
+ghost use Rattle.path_runs.specs.runs.store_api.Rows.{has_key};
+ghost use Rattle.path_runs.specs.runs.store_api.Versions.{version_of};
+ghost use Rattle.path_runs.specs.runs.node_core.declared.journal.Entry.{Entry};
+ghost use Rattle.path_runs.specs.runs.declared.envelope.Envelope.{Envelope};
+ghost use Rattle.path_runs.specs.runs.Latest.{told_table};
+ghost use Rattle.path_runs.specs.runs.Run.{IsRun, state, sent};
+ghost use Rattle.path_runs.specs.runs.Story.{IsIn};
 ghost use Rattle.version_runs.specs.Carried.{Carries, IsInSession, GivesOrigin};
+ghost use Rattle.version_runs.specs.Origins.{BeginsAnew, HadOrigin};
 ghost use Rattle.version_runs.specs.Takings.{Takes};
 ghost use Rattle.version_runs.specs.Traced.{IsTraced};
 
@@ -59,10 +62,16 @@ pub fn versions_in_messages_of_runs()
 
 /// In every run, histories are in time at each key: in the table that the journal tells, and in that of each node, the
 /// version from which a branch goes on is zero, or of an older branch that has the key, at or above that one's initial
-/// timestamp, and it is not later than the new branch's own initial timestamp.
+/// timestamp, and it is not later than the new branch's own initial timestamp. It is one that the branch's maker had; only
+/// the branches with which the table began go on from nothing.
 pub fn histories_in_time_of_runs()
     ensures told { (setup : SetupState) → IsSetup setup → (past : List Entry) → IsRun setup past
         → (key : List ℕ) → IsInTime (told_table setup past).history (hash_of key setup.hashes) key }
     ensures tables { (setup : SetupState) → IsSetup setup → (past : List Entry) → IsRun setup past
-        → (n : ℕ) (key : List ℕ) → IsInTime (table_of (state setup n past).log).history (hash_of key setup.hashes) key }
+        → (n : ℕ) → n < setup.nodes → (key : List ℕ)
+        → IsInTime (table_of (state setup n past).log).history (hash_of key setup.hashes) key }
+    ensures had { (setup : SetupState) → IsSetup setup → (past : List Entry) → IsRun setup past
+        → (branch : Id) (birth : BranchBirth) → birth_of (told_table setup past).history branch ≡ Some birth
+        → (key : List ℕ) → has_key birth.region setup.hashes key ≡ true
+        → BeginsAnew setup branch birth key ⊎ HadOrigin setup past branch birth key }
 {}
