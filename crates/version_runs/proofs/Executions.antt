@@ -1,7 +1,6 @@
 -- What a step leaves of a node's executions: each is one that was there, or starts a branch for which the node asked.
-use Rattle.std.proofs.Common.{◌≡◌, ◌⊎◌, ℕ, ◌+◌, ◌≤◌, true, false, cond, List, [], ◌∷◌, ◌++◌, map, filter, nat_lt, max, min, Option, Some, None, inl, inr, refl, sym, ap, ◌∙◌, subst, arith}
+use Rattle.std.proofs.Common.{◌≡◌, ◌⊎◌, ℕ, ◌+◌, ◌≤◌, List, [], ◌∷◌, map, filter, nat_lt, max, min, Option, Some, None, inl, inr, refl, sym, ap, ◌∙◌, subst, arith}
 use Rattle.std.proofs.lemmas.Bool.{cond_both}
-use Rattle.path_runs.specs.runs.region_map.declared.id.Id.{Id}
 use Rattle.path_runs.specs.runs.region_map.declared.id.NodeId.{NodeId}
 use Rattle.path_runs.specs.runs.region_map.Maps.{Pieced}
 use Rattle.path_runs.specs.runs.branch_history.declared.version.Version.{Version}
@@ -29,7 +28,7 @@ use Rattle.path_runs.specs.runs.node_core.Parts.{Requested, is_for, dispatched, 
 use Rattle.path_runs.specs.runs.node_core.Starting.{Starting, place_of, placed, due, start_one, start_each}
 use Rattle.path_runs.specs.runs.node_core.Step.{NodeState, Stepped, silent, leads, coordinates, propose_all, id_in, askings_from, tick_row, message_row, is_well_formed, brought_row, input_row, act_on, act, node_step}
 use Rattle.path_runs.specs.runs.Story.{IsIn}
-use Rattle.path_runs.proofs.runs.list_laws.Members.{IsIn-left, IsIn-right, IsIn-append, IsIn-filter, IsIn-map}
+use Rattle.path_runs.proofs.runs.list_laws.Members.{IsIn-append, IsIn-filter, IsIn-map}
 
 -- ---- an execution that goes on
 

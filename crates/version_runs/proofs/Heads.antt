@@ -1,8 +1,7 @@
 -- The executions of a node, and what it asks for, by their branches: no branch stands there twice.
-use Rattle.std.proofs.Common.{◌≡◌, ℕ, ◌+◌, ◌≤◌, true, false, cond, List, [], ◌∷◌, inl, inr, refl, sym, ap, ◌∙◌, subst, arith}
+use Rattle.std.proofs.Common.{◌≡◌, ℕ, ◌≤◌, List, [], ◌∷◌, inl, inr, sym, ap, ◌∙◌, subst, arith}
 use Rattle.std.specs.List.{AllByRecursion}
 use Rattle.path_runs.specs.runs.region_map.declared.id.Id.{Id}
-use Rattle.path_runs.specs.runs.region_map.Equal.{same_id}
 use Rattle.path_runs.specs.runs.primary_exec.declared.asking.Asking.{Asking}
 use Rattle.path_runs.specs.runs.primary_exec.Execution.{Execution}
 use Rattle.path_runs.specs.runs.Story.{IsIn}

@@ -1,7 +1,7 @@
 -- What the outputs of a step rest on: the points that it tells of, the maps that it says, and where its sessions stand.
-use Rattle.std.proofs.Common.{◌≡◌, ℕ, ◌+◌, ◌==◌, true, List, [], ◌∷◌, ◌++◌, map, filter, nat_le, Option, Some, None, inl, inr, refl, sym, subst}
+use Rattle.std.proofs.Common.{◌≡◌, ℕ, ◌+◌, ◌==◌, true, List, [], ◌∷◌, ◌++◌, map, filter, Option, Some, None, inl, inr, refl, sym, subst}
 use Rattle.std.proofs.lemmas.Bool.{cond_both}
-use Rattle.std.specs.List.{AllByRecursion, flat_map, list_any}
+use Rattle.std.specs.List.{AllByRecursion, list_any}
 use Rattle.path_runs.specs.runs.region_map.declared.id.Id.{Id}
 use Rattle.path_runs.specs.runs.region_map.declared.id.NodeId.{NodeId}
 use Rattle.path_runs.specs.runs.region_map.declared.region.Region.{Region}
@@ -21,11 +21,9 @@ use Rattle.path_runs.specs.runs.contract_types.declared.change.Change.{Change}
 use Rattle.path_runs.specs.runs.contract_types.declared.contract.Contract.{Contract}
 use Rattle.path_runs.specs.runs.contract_types.declared.contract.Holder.{Holder}
 use Rattle.path_runs.specs.runs.contract_types.declared.results.Viewed.{Viewed as Results}
-use Rattle.path_runs.specs.runs.coordinator.Acks.{with_ack}
 use Rattle.path_runs.specs.runs.coordinator.Proposals.{proposals_of, after_proposals}
 use Rattle.path_runs.specs.runs.table_log.Logs.{LogStepped, table_of, log_step, viewed}
 use Rattle.path_runs.specs.runs.exec_types.Parts.{timestamp_of}
-use Rattle.path_runs.specs.runs.exec_types.declared.message.Got.{Got}
 use Rattle.path_runs.specs.runs.exec_types.declared.message.Message.{Message as Sent}
 use Rattle.path_runs.specs.runs.exec_types.declared.message.Message.TheVariants as message
 use Rattle.path_runs.specs.runs.exec_types.declared.message.Part.{Part}
@@ -42,7 +40,7 @@ use Rattle.path_runs.specs.runs.write_dispatch.declared.decided.Decided.{Decided
 use Rattle.path_runs.specs.runs.write_dispatch.Dispatch.{counts_of, is_decided, pending_of}
 use Rattle.path_runs.specs.runs.secondary_exec.declared.following.Following.{Following}
 use Rattle.path_runs.specs.runs.secondary_exec.declared.waiting.Waiting.{Waiting}
-use Rattle.path_runs.specs.runs.secondary_exec.Stream.{FollowingStep, acknowledgement, stream_row, is_ours, apply_part}
+use Rattle.path_runs.specs.runs.secondary_exec.Stream.{FollowingStep, acknowledgement, stream_row, is_ours}
 use Rattle.path_runs.specs.runs.primary_exec.declared.asking.Asking.{Asking}
 use Rattle.path_runs.specs.runs.primary_exec.declared.session.Session.{Session}
 use Rattle.path_runs.specs.runs.primary_exec.Execution.{Execution, PrimaryStep, has_room, sends, part_of, dispatch_row, needs_branch, said, answers, decides, decided_answers, decide_outs, given_up, give_up_outs}
@@ -50,10 +48,10 @@ use Rattle.path_runs.specs.runs.node_core.declared.node.Brought.{Brought}
 use Rattle.path_runs.specs.runs.node_core.Parts.{Requested, Streamed, is_for, dispatched, passed_on, request_all, taken, left_alone, stream_all, give_up_all_outs, decide_all_outs}
 use Rattle.path_runs.specs.runs.node_core.Saying.{Roles, is_asking_under, is_run_under, is_waiting_under, is_following_under, or_ack, asking_ack, execution_ack, waiting_ack, following_ack, ack_under, says_to, acknowledgements_to, acknowledges, says_under, says_all}
 use Rattle.path_runs.specs.runs.node_core.Starting.{current_of}
-use Rattle.path_runs.specs.runs.node_core.Step.{NodeState, Stepped, silent, coordinates, propose_all, with_log, with_proposals, roles_of, raft_outs, says_now, tick_row, message_row, is_well_formed, brought_row, input_row, act_on, act, node_step}
+use Rattle.path_runs.specs.runs.node_core.Step.{NodeState, Stepped, silent, coordinates, propose_all, with_log, raft_outs, says_now, tick_row, message_row, is_well_formed, brought_row, input_row, act_on, act, node_step}
 use Rattle.path_runs.specs.runs.Story.{IsIn}
 use Rattle.path_runs.proofs.runs.list_laws.All.{all_append}
-use Rattle.path_runs.proofs.runs.list_laws.Members.{IsIn-left, IsIn-right, IsIn-filter, all_from_members}
+use Rattle.path_runs.proofs.runs.list_laws.Members.{IsIn-left, IsIn-right, IsIn-filter}
 use Rattle.path_runs.proofs.step_runs.Outs.{stream_cases}
 
 part_time : (before : State) (at : ℕ) (key : List ℕ) (what : Op) → timestamp_of (part_of before at key what) ≡ at

@@ -1,7 +1,6 @@
 -- In every run a branch's maker alone takes its timestamps, syncs too, and they rise.
-use Rattle.std.proofs.Common.{◌≡◌, ◌⊎◌, ℕ, ◌+◌, ◌≤◌, ◌<◌, ◌==◌, true, cond, List, [], ◌∷◌, ◌++◌, Option, Some, None, inl, inr, refl, sym, ap, ◌∙◌, subst, arith}
-use Rattle.std.proofs.lemmas.Bool.{cond_both, eqb-true, eq-eqb, cases_Bool, both_ways}
-use Rattle.std.specs.List.{AllByRecursion}
+use Rattle.std.proofs.Common.{◌≡◌, ◌⊎◌, ℕ, ◌+◌, ◌≤◌, ◌<◌, ◌==◌, cond, List, [], ◌∷◌, ◌++◌, Option, Some, None, inl, inr, refl, sym, ap, ◌∙◌, subst, arith}
+use Rattle.std.proofs.lemmas.Bool.{eqb-true, eq-eqb, cases_Bool, both_ways}
 use Rattle.path_runs.specs.runs.region_map.declared.id.Id.{Id}
 use Rattle.path_runs.specs.runs.region_map.Nodes.{node_id}
 use Rattle.path_runs.specs.runs.region_map.Maps.{Pieced}
@@ -22,17 +21,16 @@ use Rattle.path_runs.specs.runs.node_core.declared.journal.Entry.{Entry}
 use Rattle.path_runs.specs.runs.node_core.Step.{NodeState, Stepped, input_row, node_step}
 use Rattle.path_runs.specs.runs.Run.{brought, state, IsRun}
 use Rattle.path_runs.specs.runs.Story.{Point, IsIn, points, points_in, points_of}
-use Rattle.path_runs.proofs.runs.list_laws.All.{all_append}
-use Rattle.path_runs.proofs.runs.list_laws.Members.{IsIn-right, all_member, all_from_members}
+use Rattle.path_runs.proofs.runs.list_laws.Members.{IsIn-right, all_member}
 use Rattle.path_runs.proofs.log_runs.LogWorldRuns.{moving}
 use Rattle.path_runs.proofs.lead_runs.LedRuns.{act_life, lives_grow, earlier_run}
 use Rattle.path_runs.proofs.lead_runs.LedAsked.{IsOwn}
 use Rattle.path_runs.proofs.step_runs.PointBranches.{times, heads_of, branches, asked_of, held, IsHeadOf, IsUnused, IsHeld}
 use Rattle.path_runs.proofs.step_runs.PointRuns.{points_rise}
 use Rattle.version_runs.specs.Takings.{HasSync, Takes, Dispatches, Syncs, IsTaken}
-use Rattle.version_runs.proofs.Executions.{GoesOn, WasThere, Starts, row_asks, step_asks, step_there}
+use Rattle.version_runs.proofs.Executions.{row_asks, step_asks, step_there}
 use Rattle.version_runs.proofs.Heads.{head_at, asked_at, counted, asked_counted, one_execution}
-use Rattle.version_runs.proofs.Outputs.{OutFits, MayFollow, MaySay, step_fit}
+use Rattle.version_runs.proofs.Outputs.{OutFits, MayFollow, step_fit}
 
 -- ---- a point that a step tells of
 

@@ -4,7 +4,6 @@ use Rattle.std.proofs.Math.Nat.{mod-lt}
 use Rattle.std.proofs.lemmas.Bool.{cond_both, and_parts, le-leb, ltb-true}
 use Rattle.std.specs.List.{AllByRecursion}
 use Rattle.path_runs.specs.runs.region_map.declared.id.Id.{Id}
-use Rattle.path_runs.specs.runs.region_map.declared.id.NodeId.{NodeId}
 use Rattle.path_runs.specs.runs.region_map.Keys.{hash_of}
 use Rattle.path_runs.specs.runs.region_map.Regions.{in_region}
 use Rattle.path_runs.specs.runs.region_map.Maps.{value_at}
@@ -35,7 +34,7 @@ use Rattle.path_runs.proofs.step_runs.Runs.{some_hash}
 use Rattle.path_runs.proofs.step_runs.ShardRoles.{HasRoles, member_below, setup_roles}
 use Rattle.path_runs.proofs.change_runs.Asked.{IsAsked, history_of}
 use Rattle.path_runs.proofs.change_runs.AskedRuns.{asked_in, registered_asked}
-use Rattle.path_runs.proofs.change_runs.LedHistories.{birth_known, knows_one, newer_apart, birth_longer, stands, some_inner}
+use Rattle.path_runs.proofs.change_runs.LedHistories.{birth_known, knows_one, newer_apart, birth_longer, stands}
 use Rattle.path_runs.proofs.change_runs.Registered.{comes_from}
 use Rattle.path_runs.proofs.lead_runs.LedAsked.{CameBy, asked_run, asked_own, asked_origin}
 use Rattle.path_runs.proofs.lead_runs.LedKeys.{LedAt, led_at}

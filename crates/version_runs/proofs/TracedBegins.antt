@@ -1,8 +1,7 @@
 -- With which versions, executions and followings a table begins: those of the first branches, which begin at 0.
-use Rattle.std.proofs.Common.{◌≡◌, ℕ, ◌+◌, ◌<◌, ◌==◌, true, false, cond, List, [], ◌∷◌, ◌++◌, Some, inl, inr, refl, sym, ap, ◌∙◌, subst, arith}
+use Rattle.std.proofs.Common.{◌≡◌, ℕ, ◌+◌, ◌<◌, ◌==◌, true, false, cond, List, [], ◌∷◌, Some, inl, inr, refl, sym, ap, ◌∙◌, subst, arith}
 use Rattle.std.proofs.lemmas.Bool.{cond_both, eq-eqb}
 use Rattle.path_runs.specs.runs.region_map.declared.id.Id.{Id}
-use Rattle.path_runs.specs.runs.region_map.declared.id.NodeId.{NodeId}
 use Rattle.path_runs.specs.runs.region_map.Equal.{same_id}
 use Rattle.path_runs.specs.runs.region_map.Nodes.{node_id, has}
 use Rattle.path_runs.specs.runs.region_map.Maps.{Pieced}
@@ -134,8 +133,7 @@ firsts_from setup place (s ∷ ss) older is within =
     let x : Execution = setup_execution (first_contract place s) s.primary place in
     let now : Branches = (b, first_birth setup.hashes s) ∷ older in
     let born : Born (first_branches setup.hashes (place + 1) ss now) b =
-    born_longer setup.hashes (place + 1) ss now b (record { birth = first_birth setup.hashes s; is = ap (λ c. cond c (Some (first_birth setup.hashes s)) (birth_of older b)) (id_self b); initial = refl }) in
-    (
+    born_longer setup.hashes (place + 1) ss now b (record { birth = first_birth setup.hashes s; is = ap (λ c. cond c (Some (first_birth setup.hashes s)) (birth_of older b)) (id_self b); initial = refl }) in (
       record {
         life_is = refl;
         execution = x;
@@ -146,7 +144,7 @@ firsts_from setup place (s ∷ ss) older is within =
         initial = born.initial;
       },
       firsts_from setup (place + 1) ss now is (λ n y i.
-      within n y (cond_both (is_led n s) (setup_execution (first_contract place s) s.primary place ∷ executions_from n (place + 1) ss) (executions_from n (place + 1) ss) (λ (l : List Execution). IsIn l y) (λ _. inr i) (λ _. i))),
+          within n y (cond_both (is_led n s) (setup_execution (first_contract place s) s.primary place ∷ executions_from n (place + 1) ss) (executions_from n (place + 1) ss) (λ (l : List Execution). IsIn l y) (λ _. inr i) (λ _. i))),
     )
 
 pub firsts : (setup : SetupState) → Firsts (IsFirst setup) 0 setup.shards

@@ -1,5 +1,5 @@
 -- In every run each version in a store, in a message and in a log can be traced to the maker of its branch.
-use Rattle.std.proofs.Common.{◌≡◌, ◌⊎◌, ℕ, zero, suc, ◌+◌, ◌-◌, ◌<◌, ◌==◌, true, cond, List, [], ◌∷◌, ◌++◌, map, slice_get, Option, Some, None, inl, inr, refl, sym, ap, ◌∙◌, subst, arith, sum}
+use Rattle.std.proofs.Common.{◌≡◌, ℕ, zero, suc, ◌+◌, ◌-◌, ◌<◌, ◌==◌, List, [], ◌∷◌, ◌++◌, map, slice_get, Option, Some, None, inl, inr, refl, sym, ap, ◌∙◌, subst, arith, sum}
 use Rattle.std.proofs.Math.Nat.{mod-lt}
 use Rattle.std.proofs.lemmas.Bool.{cond_both, and_parts, eqb-true, eq-eqb, cases_Bool, both_ways}
 use Rattle.std.specs.List.{AllByRecursion}
@@ -8,16 +8,12 @@ use Rattle.path_runs.specs.runs.region_map.declared.id.NodeId.{NodeId}
 use Rattle.path_runs.specs.runs.region_map.declared.region.Region.{Region}
 use Rattle.path_runs.specs.runs.region_map.Keys.{hash_of}
 use Rattle.path_runs.specs.runs.region_map.Maps.{Pieced}
-use Rattle.path_runs.specs.runs.region_map.Made.{mask_map}
 use Rattle.path_runs.specs.runs.branch_history.declared.version.Version.{Version}
 use Rattle.path_runs.specs.runs.branch_history.declared.history.BranchBirth.{BranchBirth}
-use Rattle.path_runs.specs.runs.branch_history.Equal.{same_version}
 use Rattle.path_runs.specs.runs.branch_history.Histories.{birth_of}
 use Rattle.path_runs.specs.runs.raft_vote.declared.log.LogEntry.{LogEntry}
-use Rattle.path_runs.specs.runs.raft_vote.declared.message.RaftMessage.{RaftMessage}
 use Rattle.path_runs.specs.runs.raft_vote.declared.message.RaftMessage.TheVariants.{VoteAsk, VoteSay, Append, AppendSay}
 use Rattle.path_runs.specs.runs.register_laws.declared.operation.OpId.{OpId}
-use Rattle.path_runs.specs.runs.register_laws.declared.operation.Op.{Op}
 use Rattle.path_runs.specs.runs.contract_types.Setup.{SetupState, IsSetup}
 use Rattle.path_runs.specs.runs.contract_types.Tables.{Table}
 use Rattle.path_runs.specs.runs.contract_types.declared.ack.Ack.{Ack}
@@ -33,12 +29,10 @@ use Rattle.path_runs.specs.runs.exec_types.declared.input.Input.TheVariants.{Req
 use Rattle.path_runs.specs.runs.exec_types.declared.message.Message.{Message as Sent}
 use Rattle.path_runs.specs.runs.exec_types.declared.message.Message.TheVariants as message
 use Rattle.path_runs.specs.runs.exec_types.declared.message.SessionName.{SessionName}
-use Rattle.path_runs.specs.runs.exec_types.declared.message.Stream.{Stream}
 use Rattle.path_runs.specs.runs.exec_types.declared.output.Output.{Output}
 use Rattle.path_runs.specs.runs.exec_types.declared.output.Output.TheVariants.{Message, Dispatched, Viewed, Answer}
-use Rattle.path_runs.specs.runs.store_api.Versions.{point, version_of, zero_map}
+use Rattle.path_runs.specs.runs.store_api.Versions.{version_of, zero_map}
 use Rattle.path_runs.specs.runs.secondary_exec.declared.following.Following.{Following}
-use Rattle.path_runs.specs.runs.secondary_exec.Stream.{is_ours}
 use Rattle.path_runs.specs.runs.primary_exec.declared.asking.Asking.{Asking}
 use Rattle.path_runs.specs.runs.primary_exec.declared.session.Session.{Session}
 use Rattle.path_runs.specs.runs.primary_exec.Execution.{Execution, started, decided}
@@ -49,7 +43,7 @@ use Rattle.path_runs.specs.runs.node_core.Starting.{initial_of, is_current, due}
 use Rattle.path_runs.specs.runs.node_core.Step.{NodeState, Stepped, input_row, act_on, act, node_step}
 use Rattle.path_runs.specs.runs.declared.envelope.Envelope.{Envelope}
 use Rattle.path_runs.specs.runs.Committed.{IsEarlier}
-use Rattle.path_runs.specs.runs.Run.{sent_by, sent, message_at, opened, brought, state, IsRun}
+use Rattle.path_runs.specs.runs.Run.{sent_by, sent, opened, brought, state, IsRun}
 use Rattle.path_runs.specs.runs.Story.{IsIn}
 use Rattle.path_runs.proofs.runs.list_laws.All.{all_append, all_weaker}
 use Rattle.path_runs.proofs.runs.list_laws.Members.{IsIn-left, all_member}
@@ -59,14 +53,14 @@ use Rattle.path_runs.proofs.change_runs.AskedRuns.{AskedUnder, asked_facts, regi
 use Rattle.path_runs.proofs.change_runs.AskedRunsSteps.{ClaimsSent}
 use Rattle.path_runs.proofs.lead_runs.LedAsked.{IsOwn}
 use Rattle.path_runs.proofs.lead_runs.LedRuns.{earlier_run, run_roles}
-use Rattle.version_runs.specs.Takings.{HasSync, Takes, Dispatches, Syncs, IsTaken}
+use Rattle.version_runs.specs.Takings.{Dispatches, Syncs}
 use Rattle.version_runs.specs.Traced.{IsStarted, IsPointOf, IsTraced}
-use Rattle.version_runs.specs.Carried.{Gives, GivesOrigin, HasOrigin, RaftCarries, Reports, Streams, Joins, IsSessionOf, IsInSession, CarriesAt, Carries}
+use Rattle.version_runs.specs.Carried.{GivesOrigin, HasOrigin, Reports, IsSessionOf, IsInSession, CarriesAt, Carries}
 use Rattle.version_runs.proofs.Executions.{row_asks, step_there}
 use Rattle.version_runs.proofs.Outputs.{Fits, OutFits, MaySay, MayFollow, step_fit}
-use Rattle.version_runs.proofs.TakenRuns.{after, after_is, other_is, own_after, never_both}
-use Rattle.version_runs.proofs.TracedSteps.{some_inner, none_some, same_name, Traced, MapTraced, WholeTraced, point_traced, masked_traced, Follows, StreamTraced, StoreTraced, MayTake, MayCome, MayStart, MayBegin, step_traced}
-use Rattle.version_runs.proofs.TracedBegins.{Firsts, firsts_weaker, Runs, begin_runs, begin_follows, begin_versions, zero_traced, IsFirst, firsts}
+use Rattle.version_runs.proofs.TakenRuns.{after_is, other_is, own_after, never_both}
+use Rattle.version_runs.proofs.TracedSteps.{some_inner, none_some, same_name, Traced, WholeTraced, point_traced, masked_traced, StoreTraced, MayCome, MayStart, step_traced}
+use Rattle.version_runs.proofs.TracedBegins.{firsts_weaker, Runs, begin_runs, begin_follows, begin_versions, zero_traced, IsFirst, firsts}
 
 -- ---- what is kept of a run
 
@@ -292,8 +286,7 @@ module _ (setup : SetupState) (ok : IsSetup setup) (past : List Entry) (e : Entr
       let step : Stepped = input_row s e.input b in
       let y : Execution = decided (started a step.node.me initial) in
       let y_in : IsIn now.executions y = mapped_in decided (act step).node.executions (started a step.node.me initial) j in
-      let w = begins y y_in a refl initial may in
-      (
+      let w = begins y y_in a refl initial may in (
         record { birth = w.birth; started = w.started; came = inl (sym w.initial_is) },
         record {
           birth = w.birth;
@@ -335,11 +328,14 @@ module _ (setup : SetupState) (ok : IsSetup setup) (past : List Entry) (e : Entr
         maps = λ r. masked_traced P r s.versions hashes own.versions_are;
         stand = λ f i. joined_at f i f.position (own.follows f i).stands;
         next = tells b (follow b came);
-        points = λ op key what is x i j. (tt, λ t k. record {
-          branch = x.branch;
-          session = record { moment = past; earlier = before; node = n; is = inl (record { execution = x; is_in = i; session = t; has = k; name_is = refl; branch_is = refl }) };
-          at = subst (λ (d : Id). P d (x.last + 1)) (sym ((h.runs n x i).names t k)) (takes op key x i j);
-        });
+        points = λ op key what is x i j. (
+          tt,
+          λ t k. record {
+            branch = x.branch;
+            session = record { moment = past; earlier = before; node = n; is = inl (record { execution = x; is_in = i; session = t; has = k; name_is = refl; branch_is = refl }) };
+            at = subst (λ (d : Id). P d (x.last + 1)) (sym ((h.runs n x i).names t k)) (takes op key x i j);
+          },
+        );
       }
 
   store_next : StoreTraced P now
@@ -432,6 +428,9 @@ module _ (setup : SetupState) (ok : IsSetup setup) (past : List Entry) (run : Is
   pub stored : (n : ℕ) (key : List ℕ) (version : Version) → version_of (state setup n past).versions key ≡ Some version → IsTraced setup past version
   stored n key version is =
       ((run_traced setup ok past run).stores n).versions_are (hash_of key (state setup n past).versions.hashes) key version (mod-lt (sum key) (some_version n)) is
+
+  pub followed : (n : ℕ) (f : Following) → IsIn (state setup n past).followings f → IsPointOf setup past f.branch f.position
+  followed n f i = (((run_traced setup ok past run).stores n).follows f i).stands
 
 -- ---- what was asked for
 

@@ -1,5 +1,5 @@
 -- What a step does to the versions of a node and to its followings, where each new version is one that may be there.
-use Rattle.std.proofs.Common.{◌≡◌, ◌⊎◌, ℕ, ◌+◌, ◌≤◌, ◌<◌, ◌==◌, ◌&&◌, true, false, cond, List, [], ◌∷◌, ◌++◌, map, filter, nat_le, Option, Some, None, is_some, inl, inr, refl, sym, ap, ◌∙◌, subst, arith}
+use Rattle.std.proofs.Common.{◌≡◌, ◌⊎◌, ℕ, ◌+◌, ◌<◌, ◌&&◌, true, cond, List, [], ◌∷◌, ◌++◌, map, filter, Option, Some, None, is_some, inl, inr, refl, sym, ◌∙◌, subst, arith}
 use Rattle.std.proofs.lemmas.Bool.{cond_both, cases_lt, and_parts}
 use Rattle.path_runs.specs.runs.region_map.declared.id.Id.{Id}
 use Rattle.path_runs.specs.runs.region_map.declared.id.NodeId.{NodeId}
@@ -30,7 +30,6 @@ use Rattle.path_runs.specs.runs.exec_types.declared.message.SessionName.{Session
 use Rattle.path_runs.specs.runs.exec_types.declared.message.Stream.{Stream}
 use Rattle.path_runs.specs.runs.exec_types.declared.input.Input.{Input}
 use Rattle.path_runs.specs.runs.exec_types.declared.input.Input.TheVariants.{Request, GiveUp, See, Tick, Deliver, Crash, Restart}
-use Rattle.path_runs.specs.runs.exec_types.declared.output.Output.{Output}
 use Rattle.path_runs.specs.runs.exec_types.declared.output.Output.TheVariants.{Dispatched}
 use Rattle.path_runs.specs.runs.store_api.Rows.{Rows, value_of}
 use Rattle.path_runs.specs.runs.store_api.Versions.{point, is_behind, advanced_map, replaced_map}
@@ -38,11 +37,11 @@ use Rattle.path_runs.proofs.runs.store_api.VersionMaps.{advanced_map_hashes, adv
 use Rattle.path_runs.specs.runs.secondary_exec.declared.following.Following.{Following}
 use Rattle.path_runs.specs.runs.secondary_exec.Stream.{FollowingStep, is_ours, stream_row, applied}
 use Rattle.path_runs.specs.runs.primary_exec.declared.asking.Asking.{Asking}
-use Rattle.path_runs.specs.runs.primary_exec.Execution.{Execution, PrimaryStep, has_room, sends, part_of, dispatch_row, started, started_versions}
+use Rattle.path_runs.specs.runs.primary_exec.Execution.{Execution, PrimaryStep, has_room, sends, part_of, dispatch_row, started}
 use Rattle.path_runs.specs.runs.node_core.declared.node.Brought.{Brought}
 use Rattle.path_runs.specs.runs.node_core.Parts.{Requested, Streamed, is_for, dispatched, passed_on, request_all, taken, left_alone, stream_all}
 use Rattle.path_runs.specs.runs.node_core.Starting.{Starting, due, start_one, start_each}
-use Rattle.path_runs.specs.runs.node_core.Step.{NodeState, Stepped, silent, leads, coordinates, propose_all, tick_row, message_row, is_well_formed, brought_row, input_row, act_on, act, node_step}
+use Rattle.path_runs.specs.runs.node_core.Step.{NodeState, Stepped, silent, leads, coordinates, propose_all, tick_row, message_row, is_well_formed, brought_row, input_row, act_on, node_step}
 use Rattle.path_runs.specs.runs.Story.{IsIn}
 use Rattle.path_runs.proofs.runs.list_laws.Members.{IsIn-right}
 use Rattle.path_runs.proofs.change_runs.LedMaps.{mask_at}

@@ -12,6 +12,7 @@ ghost use Rattle.path_runs.specs.runs.contract_types.declared.change.Change.{Cha
 ghost use Rattle.path_runs.specs.runs.table_log.Logs.{table_of};
 ghost use Rattle.path_runs.specs.runs.store_api.Rows.{has_key};
 ghost use Rattle.path_runs.specs.runs.store_api.Versions.{version_of};
+ghost use Rattle.path_runs.specs.runs.secondary_exec.declared.following.Following.{Following};
 ghost use Rattle.path_runs.specs.runs.node_core.declared.journal.Entry.{Entry};
 ghost use Rattle.path_runs.specs.runs.declared.envelope.Envelope.{Envelope};
 ghost use Rattle.path_runs.specs.runs.Latest.{told_table};
@@ -20,7 +21,7 @@ ghost use Rattle.path_runs.specs.runs.Story.{IsIn};
 ghost use Rattle.version_runs.specs.Carried.{Carries, IsInSession, GivesOrigin};
 ghost use Rattle.version_runs.specs.Origins.{BeginsAnew, HadOrigin};
 ghost use Rattle.version_runs.specs.Takings.{Takes};
-ghost use Rattle.version_runs.specs.Traced.{IsTraced};
+ghost use Rattle.version_runs.specs.Traced.{IsPointOf, IsTraced};
 
 /// In every run, the timestamps of a branch, those of syncs too, are taken by its maker alone, in the life in which it made
 /// the branch, and they rise: of two that are taken in different steps the later one is greater, and a step takes no
@@ -44,12 +45,16 @@ pub fn sync_makers_of_runs()
 {}
 
 /// In every run, each version in a store, in a message that was sent and in a change of a log is zero, or of a branch that
-/// its maker started, at the branch's initial timestamp or at one that was taken; all this by then, since each
-/// beginning of a run is a run.
+/// its maker started, at the branch's initial timestamp or at one that was taken, and so is the point to which a secondary
+/// came in its session. As each beginning of a run is a run, the branch was started and the timestamp taken by the time
+/// at which the version is there. A message of a session is of one that was there, and its timestamps are those of the
+/// branch that the session brings.
 pub fn versions_in_messages_of_runs()
     ensures stores { (setup : SetupState) → IsSetup setup → (past : List Entry) → IsRun setup past
         → (n : ℕ) (key : List ℕ) (version : Version) → version_of (state setup n past).versions key ≡ Some version
         → IsTraced setup past version }
+    ensures followings { (setup : SetupState) → IsSetup setup → (past : List Entry) → IsRun setup past
+        → (n : ℕ) (f : Following) → IsIn (state setup n past).followings f → IsPointOf setup past f.branch f.position }
     ensures messages { (setup : SetupState) → IsSetup setup → (past : List Entry) → IsRun setup past
         → (m : Envelope) → IsIn (sent past) m → (version : Version) → Carries setup past m.message version
         → IsTraced setup past version }

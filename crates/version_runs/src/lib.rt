@@ -7,8 +7,6 @@
 //! Words: docs/PROOF.md.
 #![tactic(auto)]
 
-pub use laws::{
-    histories_in_time_of_runs, sync_makers_of_runs, versions_in_messages_of_runs,
-};
+pub use laws::{histories_in_time_of_runs, sync_makers_of_runs, versions_in_messages_of_runs};
 
 pub mod laws;
