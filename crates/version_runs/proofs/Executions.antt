@@ -27,7 +27,8 @@ use Rattle.path_runs.specs.runs.node_core.declared.node.Brought.{Brought}
 use Rattle.path_runs.specs.runs.node_core.Parts.{Requested, is_for, dispatched, passed_on, request_all}
 use Rattle.path_runs.specs.runs.node_core.Starting.{Starting, place_of, placed, due, start_one, start_each}
 use Rattle.path_runs.specs.runs.node_core.Step.{NodeState, Stepped, silent, leads, coordinates, propose_all, id_in, askings_from, tick_row, message_row, is_well_formed, brought_row, input_row, act_on, act, node_step}
-use Rattle.path_runs.specs.runs.Story.{IsIn}
+use Rattle.path_runs.specs.runs.Story.{Point, IsIn, points_of}
+use Rattle.path_runs.proofs.lead_runs.LedRows.{Kept, kept, Done, Still, Dispatches, Streams, GoesDown, ComesUp, row_done}
 use Rattle.path_runs.proofs.runs.list_laws.Members.{IsIn-append, IsIn-filter, IsIn-map}
 
 -- ---- an execution that goes on
@@ -148,25 +149,6 @@ row_there s Restart b y i = absurd i
 
 -- ---- what a node asks for after a row
 
-message_asks : (s : NodeState) (from : NodeId) (m : Sent) (a : Asking) → IsIn (message_row s from m).node.asking a → IsIn s.asking a
-message_asks s from (message.Raft m) a i = i
-message_asks s from (message.Say contract ack) a i =
-    cond_both (leads s.log) (record s { acks = with_ack contract from ack s.acks }) s (λ (t : NodeState). IsIn t.asking a → IsIn s.asking a) (λ _ j. j) (λ _ j. j) i
-message_asks s from (message.Stream stream) a i = i
-message_asks s from (message.Got got) a i = i
-
-brought_asks : (s : NodeState) (b : Option Brought) (a : Asking) → IsIn (brought_row s b).node.asking a → IsIn s.asking a
-brought_asks s None a i = i
-brought_asks s (Some b) a i =
-    cond_both (is_well_formed s b) (message_row s b.from b.message) (silent s) (λ (step : Stepped). IsIn step.node.asking a → IsIn s.asking a)
-    (λ _ j. message_asks s b.from b.message a j) (λ _ j. j) i
-
-tick_asks : (s : NodeState) (a : Asking) → IsIn (tick_row s).node.asking a → IsIn s.asking a
-tick_asks s a i =
-    cond_both (coordinates s.log)
-    (record s { log = propose_all s.log (proposals_of s.acks (table_of s.log)); acks = after_proposals s.acks (table_of s.log) }) s
-    (λ (t : NodeState). IsIn t.asking a → IsIn s.asking a) (λ _ j. j) (λ _ j. j) i
-
 asked_life : (me : NodeId) (life next : ℕ) (cs : List Contract) (a : Asking) → IsIn (askings_from me life next cs) a → a.branch.life ≡ life
 asked_life me life next [] a i = absurd i
 asked_life me life next (c ∷ cs) a i =
@@ -176,14 +158,17 @@ asked_life me life next (c ∷ cs) a i =
     (λ _ j. asked_life me life next cs a j) i
 
 -- it asked for it before, or the branch is of the life that begins
+module _ (me : NodeId) (hashes : ℕ) (contracts : List Contract) where
+  asks_after : (k next : Kept) (qs : List Point) → Done me hashes contracts k next qs → (a : Asking) → IsIn next.asking a → IsIn k.asking a ⊎ (a.branch.life ≡ k.life + 1)
+  asks_after k next qs (Still e _) a i = inl (subst (λ (x : Kept). IsIn x.asking a) e i)
+  asks_after k next qs (Dispatches before after x q these has branch time e _) a i = inl (subst (λ (y : Kept). IsIn y.asking a) e i)
+  asks_after k next qs (Streams region branch at j e _) a i = inl (subst (λ (x : Kept). IsIn x.asking a) e i)
+  asks_after k next qs (GoesDown e _) a i = absurd (subst (λ (x : Kept). IsIn x.asking a) e i)
+  asks_after k next qs (ComesUp e _) a i = inr (asked_life me (k.life + 1) 0 contracts a (subst (λ (x : Kept). IsIn x.asking a) e i))
+
 pub row_asks : (s : NodeState) (input : Input) (b : Option Brought) (a : Asking) → IsIn (input_row s input b).node.asking a → IsIn s.asking a ⊎ (a.branch.life ≡ s.life + 1)
-row_asks s (Request op key what) b a i = inl i
-row_asks s (GiveUp op) b a i = inl i
-row_asks s (See other up) b a i = inl i
-row_asks s Tick b a i = inl (tick_asks s a i)
-row_asks s (Deliver number) b a i = inl (brought_asks s b a i)
-row_asks s Crash b a i = absurd i
-row_asks s Restart b a i = inr (asked_life s.me (s.life + 1) 0 (table_of s.log).contracts a i)
+row_asks s input b =
+    asks_after s.me s.setup.hashes (table_of s.log).contracts (kept s) (kept (input_row s input b).node) (points_of input (input_row s input b).outs) (row_done s input b)
 
 -- ---- starting
 

@@ -1,19 +1,21 @@
 -- The executions of a node, and what it asks for, by their branches: no branch stands there twice.
-use Rattle.std.proofs.Common.{◌≡◌, ℕ, ◌≤◌, List, [], ◌∷◌, inl, inr, sym, ap, ◌∙◌, subst, arith}
+use Rattle.std.proofs.Common.{◌≡◌, ℕ, ◌≤◌, List, [], ◌∷◌, map, inl, inr, sym, ap, ◌∙◌, subst, arith}
 use Rattle.std.specs.List.{AllByRecursion}
 use Rattle.path_runs.specs.runs.region_map.declared.id.Id.{Id}
 use Rattle.path_runs.specs.runs.primary_exec.declared.asking.Asking.{Asking}
 use Rattle.path_runs.specs.runs.primary_exec.Execution.{Execution}
 use Rattle.path_runs.specs.runs.Story.{IsIn}
-use Rattle.path_runs.proofs.step_runs.PointBranches.{times, times_same, Head, head_of, heads_of, branches, asked_of}
+use Rattle.path_runs.proofs.step_runs.PointBranches.{all_at, times, times_same, Head, head_of, heads_of, branches, asked_of}
+
+pub mapped_in : {X Y : Type 0} (f : X → Y) (xs : List X) (x : X) → IsIn xs x → IsIn (map f xs) (f x)
+mapped_in f [] x i = absurd i
+mapped_in f (y ∷ ys) x i = elim i [ inl e ↦ inl (ap f e) | inr j ↦ inr (mapped_in f ys x j) ]
 
 pub head_at : (P : Head → Type 0) (xs : List Execution) (x : Execution) → AllByRecursion P (heads_of xs) → IsIn xs x → P (head_of x)
-head_at P [] x h i = absurd i
-head_at P (y ∷ ys) x h i = elim i [ inl e ↦ subst (λ (z : Execution). P (head_of z)) e h.0 | inr j ↦ head_at P ys x h.1 j ]
+head_at P xs x h i = all_at P (heads_of xs) h (head_of x) (mapped_in head_of xs x i)
 
 pub asked_at : (P : Id → Type 0) (waits : List Asking) (a : Asking) → AllByRecursion P (asked_of waits) → IsIn waits a → P a.branch
-asked_at P [] a h i = absurd i
-asked_at P (w ∷ waits) a h i = elim i [ inl e ↦ subst (λ (x : Asking). P x.branch) e h.0 | inr j ↦ asked_at P waits a h.1 j ]
+asked_at P waits a h i = all_at P (asked_of waits) h a.branch (mapped_in (λ (x : Asking). x.branch) waits a i)
 
 pub counted : (xs : List Execution) (x : Execution) → IsIn xs x → 1 ≤ times (branches (heads_of xs)) x.branch
 counted [] x i = absurd i

@@ -58,6 +58,16 @@ part_time : (before : State) (at : ℕ) (key : List ℕ) (what : Op) → timesta
 part_time before at key what =
     cond_both (writes before what) (Write at key (record { value = state_after before what; recency = at })) (Sync at) (λ (p : Part). timestamp_of p ≡ at) (λ _. refl) (λ _. refl)
 
+act_within : (step : Stepped) (v : Option Results) (o : Output) → IsIn step.outs o → IsIn (act_on step v).outs o
+act_within step None o i = i
+act_within step (Some v) o i = IsIn-left step.outs (Viewed v.first v.results ∷ []) o i
+
+-- a step gives what its row gives
+pub row_within : (s : NodeState) (input : Input) (b : Option Brought) (o : Output) → IsIn (input_row s input b).outs o → IsIn (node_step s input b).outs o
+row_within s input b o i =
+    let row : Stepped = input_row s input b in
+    IsIn-left (act row).outs (decide_all_outs (act row).node.executions) o (act_within row (viewed row.node.log) o i)
+
 -- of the session of a name a timestamp, if any, may be told; a map may be said; a point may be told
 module _ (S : SessionName → Option ℕ → Type 0) (M : Pieced Version → Type 0) (D : OpId → List ℕ → Id → ℕ → Type 0) where
   abbrev pub AckFits : Ack → Type 0
@@ -272,31 +282,25 @@ module _ (S : SessionName → Option ℕ → Type 0) (M : Pieced Version → Typ
           both (raft_outs r.sent) (says_now u) (raft_fit r.sent)
           (said_fit (current_of (table_of u.log)) t.versions m t.followings k u.me u.log.raft.votes.leader u.log.acted u.asking u.executions u.waiting (table_of u.log).contracts)
 
-  row_fit : (s : NodeState) (input : Input) (b : Option Brought) (outs : List Output) → (input_row s input b).outs ≡ outs → ((o : Output) → IsIn outs o → IsIn (node_step s input b).outs o)
-      → MaySay s input b → All (input_row s input b).outs
-  row_fit s (Request op key what) b outs is within m =
+  row_fit : (s : NodeState) (input : Input) (b : Option Brought) → MaySay s input b → All (input_row s input b).outs
+  row_fit s (Request op key what) b m =
       request_fit s.setup.hashes s.executions s.rows s.versions op key what
-      (λ x i j. m.points op key what refl x i (within (Dispatched op key x.branch (x.last + 1)) (subst (λ (l : List Output). IsIn l (Dispatched op key x.branch (x.last + 1))) is j)))
-  row_fit s (GiveUp op) b outs is within m = all_given_up_fit s.executions op
-  row_fit s (See other up) b outs is within m = tt
-  row_fit s Tick b outs is within m = tick_fit s m.maps m.stand
-  row_fit s (Deliver number) b outs is within m = brought_fit s b m.stand m.next
-  row_fit s Crash b outs is within m = tt
-  row_fit s Restart b outs is within m = tt
+      (λ x i j. m.points op key what refl x i (row_within s (Request op key what) b (Dispatched op key x.branch (x.last + 1)) j))
+  row_fit s (GiveUp op) b m = all_given_up_fit s.executions op
+  row_fit s (See other up) b m = tt
+  row_fit s Tick b m = tick_fit s m.maps m.stand
+  row_fit s (Deliver number) b m = brought_fit s b m.stand m.next
+  row_fit s Crash b m = tt
+  row_fit s Restart b m = tt
 
   act_fit : (step : Stepped) (v : Option Results) → All step.outs → All (act_on step v).outs
   act_fit step None h = h
   act_fit step (Some v) h = both step.outs (Viewed v.first v.results ∷ []) h (tt, tt)
-
-  act_within : (step : Stepped) (v : Option Results) (o : Output) → IsIn step.outs o → IsIn (act_on step v).outs o
-  act_within step None o i = i
-  act_within step (Some v) o i = IsIn-left step.outs (Viewed v.first v.results ∷ []) o i
 
   pub step_fit : (s : NodeState) (input : Input) (b : Option Brought) → MaySay s input b → All (node_step s input b).outs
   step_fit s input b m =
       let row : Stepped = input_row s input b in
       let acted : Stepped = act row in
       both acted.outs (decide_all_outs acted.node.executions)
-      (act_fit row (viewed row.node.log)
-      (row_fit s input b row.outs refl (λ o i. IsIn-left acted.outs (decide_all_outs acted.node.executions) o (act_within row (viewed row.node.log) o i)) m))
+      (act_fit row (viewed row.node.log) (row_fit s input b m))
       (all_decided_fit acted.node.executions)

@@ -22,6 +22,7 @@ use Rattle.path_runs.specs.runs.node_core.Step.{NodeState, Stepped, input_row, n
 use Rattle.path_runs.specs.runs.Run.{brought, state, IsRun}
 use Rattle.path_runs.specs.runs.Story.{Point, IsIn, points, points_in, points_of}
 use Rattle.path_runs.proofs.runs.list_laws.Members.{IsIn-right, all_member}
+use Rattle.path_runs.proofs.change_runs.LedHistories.{some_inner}
 use Rattle.path_runs.proofs.log_runs.LogWorldRuns.{moving}
 use Rattle.path_runs.proofs.lead_runs.LedRuns.{act_life, lives_grow, earlier_run}
 use Rattle.path_runs.proofs.lead_runs.LedAsked.{IsOwn}
@@ -82,19 +83,16 @@ dispatched_at s input b op key branch at i =
 
 -- ---- what was taken
 
-pub taken_more : (setup : SetupState) (past : List Entry) (e : Entry) (branch : Id) (at : ℕ) → IsTaken setup past branch at → IsTaken setup (e ∷ past) branch at
-taken_more setup past e branch at t = inr t
-
-pub taken_then : (setup : SetupState) (between past : List Entry) (branch : Id) (at : ℕ) → IsTaken setup past branch at → IsTaken setup (between ++ past) branch at
+taken_then : (setup : SetupState) (between past : List Entry) (branch : Id) (at : ℕ) → IsTaken setup past branch at → IsTaken setup (between ++ past) branch at
 taken_then setup [] past branch at t = t
 taken_then setup (e ∷ between) past branch at t = inr (taken_then setup between past branch at t)
 
 -- no execution stands below what was taken of its branch, none was taken of a branch that is asked for, and each was taken
 -- in a life that the branch's maker has had
-pub record TakenFacts (setup : SetupState) (past : List Entry) : Type 0 where
-  pub below : (n : ℕ) (x : Execution) → IsIn (state setup n past).executions x → (at : ℕ) → IsTaken setup past x.branch at → at ≤ x.last
-  pub unused : (n : ℕ) (a : Asking) → IsIn (state setup n past).asking a → (at : ℕ) → IsTaken setup past a.branch at → ⊥
-  pub lives : (branch : Id) (at : ℕ) → IsTaken setup past branch at → branch.life ≤ (state setup branch.node.0 past).life
+record TakenFacts (setup : SetupState) (past : List Entry) : Type 0 where
+  below : (n : ℕ) (x : Execution) → IsIn (state setup n past).executions x → (at : ℕ) → IsTaken setup past x.branch at → at ≤ x.last
+  unused : (n : ℕ) (a : Asking) → IsIn (state setup n past).asking a → (at : ℕ) → IsTaken setup past a.branch at → ⊥
+  lives : (branch : Id) (at : ℕ) → IsTaken setup past branch at → branch.life ≤ (state setup branch.node.0 past).life
 
 -- ---- an entry
 
@@ -184,9 +182,6 @@ module _ (setup : SetupState) (past : List Entry) (e : Entry) (run : IsRun setup
             Starting h.execution h.is_in h.branch_is (r.last_is ∙ some_inner (r.initial + 1) at (sym r.sync_is ∙ h.sync_is)) r.a
             (row_asks s e.input (brought past e.input) r.a r.is_in) (r.branch_is ∙ h.branch_is)
       ]
-    where
-      some_inner : (a b : ℕ) → Some a ≡ Some b → a ≡ b
-      some_inner a b f = cc
 
   -- executions of its branch stand there or above
   reached : (branch : Id) (at : ℕ) → Taking branch at → (y : Execution) → IsIn after.executions y → y.branch ≡ branch → at ≤ y.last
@@ -317,7 +312,7 @@ module _ (setup : SetupState) (past : List Entry) (e : Entry) (run : IsRun setup
 
 -- ---- every run
 
-pub taken_facts : (setup : SetupState) (past : List Entry) → IsRun setup past → TakenFacts setup past
+taken_facts : (setup : SetupState) (past : List Entry) → IsRun setup past → TakenFacts setup past
 taken_facts setup [] run = record { below = λ n x i at t. absurd t; unused = λ n a i at t. t; lives = λ b at t. absurd t }
 taken_facts setup (e ∷ past) run = facts_next setup past e run (taken_facts setup past run.1)
 

@@ -151,22 +151,32 @@ module _ (setup : SetupState) (ok : IsSetup setup) (past : List Entry) (run : Is
     origin_is : value_at b.1.origin.pieces g key ≡ value_at (state setup p c.asked.moment).versions.pieces g key
     origin_is = asked_origin setup ok past run c.maker b.0 b.1.region c.based_on b.1.origin c.asked g key within inside
 
-    led : LedAt setup c.asked.moment key p
-    led =
+    -- it leads the shard of the key
+    record Leads : Type 0 where
+      shard : ShardConfig
+      is_in : IsIn setup.shards shard
+      has : in_region shard.region g key ≡ true
+      who : shard.primary.0 ≡ p
+
+    leads : Leads
+    leads =
         let sh = shard_of setup ok g key within in
         let a = asked_in setup ok past run c.maker b.0 b.1.region c.based_on b.1.origin c.asked in
-        let has : in_region a.contract.region g key ≡ true = ap (λ r. in_region r g key) a.region_is ∙ inside in
-        let who : sh.shard.primary.0 ≡ p = holder_is setup ok sh.shard sh.is_in g key sh.inside a.contract p a.led.known has a.led.held_by in
-        subst (LedAt setup c.asked.moment key) who (led_at setup ok sh.shard sh.is_in key sh.inside c.asked.moment then)
+        record {
+          shard = sh.shard;
+          is_in = sh.is_in;
+          has = sh.inside;
+          who = holder_is setup ok sh.shard sh.is_in g key sh.inside a.contract p a.led.known (ap (λ r. in_region r g key) a.region_is ∙ inside) a.led.held_by;
+        }
+
+    led : LedAt setup c.asked.moment key p
+    led = subst (LedAt setup c.asked.moment key) leads.who (led_at setup ok leads.shard leads.is_in key leads.has c.asked.moment then)
 
     maker_below : p < setup.nodes
     maker_below =
-        let sh = shard_of setup ok g key within in
-        let a = asked_in setup ok past run c.maker b.0 b.1.region c.based_on b.1.origin c.asked in
-        let has : in_region a.contract.region g key ≡ true = ap (λ r. in_region r g key) a.region_is ∙ inside in
-        let who : sh.shard.primary.0 ≡ p = holder_is setup ok sh.shard sh.is_in g key sh.inside a.contract p a.led.known has a.led.held_by in
-        let roles : HasRoles setup.nodes sh.shard = all_member (HasRoles setup.nodes) setup.shards (setup_roles setup ok) sh.shard sh.is_in in
-        subst (λ m. m < setup.nodes) who (ltb-true sh.shard.primary.0 setup.nodes (member_below setup.nodes sh.shard.replicas sh.shard.primary.0 roles.replicas roles.primary))
+        let s : ShardConfig = leads.shard in
+        let roles : HasRoles setup.nodes s = all_member (HasRoles setup.nodes) setup.shards (setup_roles setup ok) s leads.is_in in
+        subst (λ m. m < setup.nodes) leads.who (ltb-true s.primary.0 setup.nodes (member_below setup.nodes s.replicas s.primary.0 roles.replicas roles.primary))
 
     abbrev y : Id
     y = led.branch

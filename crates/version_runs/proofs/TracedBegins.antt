@@ -23,8 +23,9 @@ use Rattle.path_runs.specs.runs.primary_exec.Execution.{Execution, joined, begun
 use Rattle.path_runs.specs.runs.node_core.Step.{is_led, is_followed, executions_from, followings_from, versions_from}
 use Rattle.path_runs.specs.runs.Story.{IsIn}
 use Rattle.path_runs.proofs.runs.list_laws.Members.{IsIn-append}
+use Rattle.path_runs.proofs.change_runs.LedHistories.{some_inner}
 use Rattle.path_runs.proofs.step_runs.Setups.{setup_branch}
-use Rattle.version_runs.proofs.TracedSteps.{some_inner, MapTraced, Follows, replaced_traced}
+use Rattle.version_runs.proofs.TracedSteps.{MapTraced, Follows, replaced_traced}
 
 -- the branches with which shards begin, by the shards' places
 abbrev pub Firsts : (Id → Type 0) → ℕ → List ShardConfig → Type 0

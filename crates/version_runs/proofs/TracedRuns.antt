@@ -1,5 +1,5 @@
 -- In every run each version in a store, in a message and in a log can be traced to the maker of its branch.
-use Rattle.std.proofs.Common.{◌≡◌, ℕ, zero, suc, ◌+◌, ◌-◌, ◌<◌, ◌==◌, List, [], ◌∷◌, ◌++◌, map, slice_get, Option, Some, None, inl, inr, refl, sym, ap, ◌∙◌, subst, arith, sum}
+use Rattle.std.proofs.Common.{◌≡◌, ℕ, zero, suc, ◌+◌, ◌-◌, ◌<◌, ◌==◌, List, [], ◌∷◌, ◌++◌, slice_get, Option, Some, None, inl, inr, refl, sym, ap, ◌∙◌, subst, arith, sum}
 use Rattle.std.proofs.Math.Nat.{mod-lt}
 use Rattle.std.proofs.lemmas.Bool.{cond_both, and_parts, eqb-true, eq-eqb, cases_Bool, both_ways}
 use Rattle.std.specs.List.{AllByRecursion}
@@ -20,7 +20,6 @@ use Rattle.path_runs.specs.runs.contract_types.declared.ack.Ack.{Ack}
 use Rattle.path_runs.specs.runs.contract_types.declared.ack.Ack.TheVariants.{NeedBranch, InProgress, Ready, NeedPrimary, Backfilling, Streaming}
 use Rattle.path_runs.specs.runs.contract_types.declared.change.Change.{Change}
 use Rattle.path_runs.specs.runs.contract_types.declared.change.Change.TheVariants.{Noop, SetConfig, NewContracts, RegisterBranch}
-use Rattle.path_runs.specs.runs.contract_types.declared.results.Viewed.{Viewed as Results}
 use Rattle.path_runs.specs.runs.table_log.Logs.{table_of, viewed}
 use Rattle.path_runs.specs.runs.exec_types.Parts.{timestamp_of}
 use Rattle.path_runs.specs.runs.exec_types.Sessions.{same_session}
@@ -38,28 +37,29 @@ use Rattle.path_runs.specs.runs.primary_exec.declared.session.Session.{Session}
 use Rattle.path_runs.specs.runs.primary_exec.Execution.{Execution, started, decided}
 use Rattle.path_runs.specs.runs.node_core.declared.node.Brought.{Brought}
 use Rattle.path_runs.specs.runs.node_core.declared.journal.Entry.{Entry}
-use Rattle.path_runs.specs.runs.node_core.Parts.{decide_all_outs}
 use Rattle.path_runs.specs.runs.node_core.Starting.{initial_of, is_current, due}
-use Rattle.path_runs.specs.runs.node_core.Step.{NodeState, Stepped, input_row, act_on, act, node_step}
+use Rattle.path_runs.specs.runs.node_core.Step.{NodeState, Stepped, input_row, act, node_step}
 use Rattle.path_runs.specs.runs.declared.envelope.Envelope.{Envelope}
 use Rattle.path_runs.specs.runs.Committed.{IsEarlier}
 use Rattle.path_runs.specs.runs.Run.{sent_by, sent, opened, brought, state, IsRun}
 use Rattle.path_runs.specs.runs.Story.{IsIn}
 use Rattle.path_runs.proofs.runs.list_laws.All.{all_append, all_weaker}
-use Rattle.path_runs.proofs.runs.list_laws.Members.{IsIn-left, all_member}
+use Rattle.path_runs.proofs.runs.list_laws.Members.{all_member}
 use Rattle.path_runs.proofs.step_runs.Runs.{some_hash}
 use Rattle.path_runs.proofs.change_runs.Asked.{Asked, IsAsked}
 use Rattle.path_runs.proofs.change_runs.AskedRuns.{AskedUnder, asked_facts, registered_asked}
 use Rattle.path_runs.proofs.change_runs.AskedRunsSteps.{ClaimsSent}
+use Rattle.path_runs.proofs.change_runs.LedHistories.{some_inner}
 use Rattle.path_runs.proofs.lead_runs.LedAsked.{IsOwn}
 use Rattle.path_runs.proofs.lead_runs.LedRuns.{earlier_run, run_roles}
 use Rattle.version_runs.specs.Takings.{Dispatches, Syncs}
 use Rattle.version_runs.specs.Traced.{IsStarted, IsPointOf, IsTraced}
 use Rattle.version_runs.specs.Carried.{GivesOrigin, HasOrigin, Reports, IsSessionOf, IsInSession, CarriesAt, Carries}
 use Rattle.version_runs.proofs.Executions.{row_asks, step_there}
-use Rattle.version_runs.proofs.Outputs.{Fits, OutFits, MaySay, MayFollow, step_fit}
+use Rattle.version_runs.proofs.Heads.{mapped_in}
+use Rattle.version_runs.proofs.Outputs.{Fits, OutFits, MaySay, MayFollow, row_within, step_fit}
 use Rattle.version_runs.proofs.TakenRuns.{after_is, other_is, own_after, never_both}
-use Rattle.version_runs.proofs.TracedSteps.{some_inner, none_some, same_name, Traced, WholeTraced, point_traced, masked_traced, StoreTraced, MayCome, MayStart, step_traced}
+use Rattle.version_runs.proofs.TracedSteps.{none_some, same_name, Traced, WholeTraced, point_traced, masked_traced, StoreTraced, MayCome, MayStart, step_traced}
 use Rattle.version_runs.proofs.TracedBegins.{firsts_weaker, Runs, begin_runs, begin_follows, begin_versions, zero_traced, IsFirst, firsts}
 
 -- ---- what is kept of a run
@@ -152,10 +152,6 @@ module _ (setup : SetupState) (past : List Entry) (e : Entry) where
 
 -- ---- lists
 
-mapped_in : {X Y : Type 0} (f : X → Y) (xs : List X) (x : X) → IsIn xs x → IsIn (map f xs) (f x)
-mapped_in f [] x i = absurd i
-mapped_in f (y ∷ ys) x i = elim i [ inl e ↦ inl (ap f e) | inr j ↦ inr (mapped_in f ys x j) ]
-
 sent_by_fits : (setup : SetupState) (past : List Entry) (from : NodeId) (outs : List Output)
     → AllByRecursion (OutFits (SessionAt setup past) (WholeTraced (IsPointOf setup past)) AnyPoint) outs → AllByRecursion (EnvelopeFits setup past) (sent_by from outs)
 sent_by_fits setup past from [] h = tt
@@ -163,15 +159,6 @@ sent_by_fits setup past from (Message to m ∷ outs) h = (h.0, sent_by_fits setu
 sent_by_fits setup past from (Dispatched op key branch timestamp ∷ outs) h = sent_by_fits setup past from outs h.1
 sent_by_fits setup past from (Viewed first results ∷ outs) h = sent_by_fits setup past from outs h.1
 sent_by_fits setup past from (Answer op outcome ∷ outs) h = sent_by_fits setup past from outs h.1
-
-act_within : (step : Stepped) (v : Option Results) (o : Output) → IsIn step.outs o → IsIn (act_on step v).outs o
-act_within step None o i = i
-act_within step (Some v) o i = IsIn-left step.outs (Viewed v.first v.results ∷ []) o i
-
-row_within : (s : NodeState) (input : Input) (b : Option Brought) (o : Output) → IsIn (input_row s input b).outs o → IsIn (node_step s input b).outs o
-row_within s input b o i =
-    let row : Stepped = input_row s input b in
-    IsIn-left (act row).outs (decide_all_outs (act row).node.executions) o (act_within row (viewed row.node.log) o i)
 
 -- ---- messages that come
 

@@ -44,12 +44,10 @@ use Rattle.path_runs.specs.runs.node_core.Starting.{Starting, due, start_one, st
 use Rattle.path_runs.specs.runs.node_core.Step.{NodeState, Stepped, silent, leads, coordinates, propose_all, tick_row, message_row, is_well_formed, brought_row, input_row, act_on, node_step}
 use Rattle.path_runs.specs.runs.Story.{IsIn}
 use Rattle.path_runs.proofs.runs.list_laws.Members.{IsIn-right}
+use Rattle.path_runs.proofs.change_runs.LedHistories.{some_inner}
 use Rattle.path_runs.proofs.change_runs.LedMaps.{mask_at}
 use Rattle.path_runs.proofs.step_runs.Outs.{stream_cases}
 use Rattle.version_runs.proofs.Executions.{each_starts}
-
-pub some_inner : {A : Type 0} (a b : A) → Some a ≡ Some b → a ≡ b
-some_inner a b f = cc
 
 pub none_some : {A : Type 0} (a : A) → None ≡ Some a → ⊥
 none_some a f = absurd (cc f)
