@@ -17,21 +17,19 @@ head_at P xs x h i = all_at P (heads_of xs) h (head_of x) (mapped_in head_of xs 
 pub asked_at : (P : Id → Type 0) (waits : List Asking) (a : Asking) → AllByRecursion P (asked_of waits) → IsIn waits a → P a.branch
 asked_at P waits a h i = all_at P (asked_of waits) h a.branch (mapped_in (λ (x : Asking). x.branch) waits a i)
 
-pub counted : (xs : List Execution) (x : Execution) → IsIn xs x → 1 ≤ times (branches (heads_of xs)) x.branch
-counted [] x i = absurd i
-counted (y ∷ ys) x i =
+counted_in : (bs : List Id) (b : Id) → IsIn bs b → 1 ≤ times bs b
+counted_in [] b i = absurd i
+counted_in (c ∷ bs) b i =
     elim i [
-      | inl e ↦ let one = times_same y.branch x.branch (times (branches (heads_of ys)) x.branch) (ap (λ (z : Execution). z.branch) e) in omega (arith, one)
-      | inr j ↦ let rest = counted ys x j in omega (arith, rest)
+      | inl e ↦ let one = times_same c b (times bs b) e in omega (arith, one)
+      | inr j ↦ let rest = counted_in bs b j in omega (arith, rest)
     ]
 
+pub counted : (xs : List Execution) (x : Execution) → IsIn xs x → 1 ≤ times (branches (heads_of xs)) x.branch
+counted xs x i = counted_in (branches (heads_of xs)) x.branch (mapped_in (λ (h : Head). h.branch) (heads_of xs) (head_of x) (mapped_in head_of xs x i))
+
 pub asked_counted : (waits : List Asking) (a : Asking) → IsIn waits a → 1 ≤ times (asked_of waits) a.branch
-asked_counted [] a i = absurd i
-asked_counted (w ∷ waits) a i =
-    elim i [
-      | inl e ↦ let one = times_same w.branch a.branch (times (asked_of waits) a.branch) (ap (λ (z : Asking). z.branch) e) in omega (arith, one)
-      | inr j ↦ let rest = asked_counted waits a j in omega (arith, rest)
-    ]
+asked_counted waits a i = counted_in (asked_of waits) a.branch (mapped_in (λ (x : Asking). x.branch) waits a i)
 
 -- two executions of one branch are the same
 pub one_execution : (xs : List Execution) (b : Id) → times (branches (heads_of xs)) b ≤ 1 → (x y : Execution) → IsIn xs x → IsIn xs y → x.branch ≡ b → y.branch ≡ b → x ≡ y

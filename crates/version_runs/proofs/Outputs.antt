@@ -178,12 +178,6 @@ module _ (S : SessionName → Option ℕ → Type 0) (M : Pieced Version → Typ
     execution_fit c (x ∷ xs) =
         cond_both (is_run_under c x) (Some (said x)) (execution_ack c xs) AnyFits (λ _. cond_both x.ready Ready InProgress AckFits (λ _. tt) (λ _. tt)) (λ _. execution_fit c xs)
 
-    waiting_fit : (c : Contract) (primary : NodeId) (ws : List Waiting) → AnyFits (waiting_ack c primary ws)
-    waiting_fit c primary ws = cond_both (list_any (is_waiting_under c primary) ws) (Some Backfilling) None AnyFits (λ _. tt) (λ _. tt)
-
-    following_fit : (c : Contract) (primary : NodeId) (fs : List Following) → AnyFits (following_ack c primary fs)
-    following_fit c primary fs = cond_both (list_any (is_following_under c primary) fs) (Some Streaming) None AnyFits (λ _. tt) (λ _. tt)
-
     ack_fit : (me : NodeId) (r : Roles) (c : Contract) (h : Option Holder) → AnyFits (ack_under me current versions r c h)
     ack_fit me r c None = maps c.region
     ack_fit me r c (Some h) =
@@ -193,7 +187,9 @@ module _ (S : SessionName → Option ℕ → Type 0) (M : Pieced Version → Typ
         let follows : Option Ack = following_ack c h.server r.followings in
         cond_both (h.server.0 == me.0) (or_ack asks runs) (or_ack waits follows) AnyFits
         (λ _. or_fit asks runs (asking_fit c r.asking) (execution_fit c r.executions))
-        (λ _. or_fit waits follows (waiting_fit c h.server r.waiting) (following_fit c h.server r.followings))
+        (λ _. or_fit waits follows
+        (cond_both (list_any (is_waiting_under c h.server) r.waiting) (Some Backfilling) None AnyFits (λ _. tt) (λ _. tt))
+        (cond_both (list_any (is_following_under c h.server) r.followings) (Some Streaming) None AnyFits (λ _. tt) (λ _. tt)))
 
     -- ---- what is said at a tick
 

@@ -20,7 +20,6 @@ use Rattle.path_runs.specs.runs.contract_types.declared.change.Change.{Change}
 use Rattle.path_runs.specs.runs.raft_vote.declared.log.LogEntry.{LogEntry}
 use Rattle.path_runs.specs.runs.table_apply.Runs.{change_at}
 use Rattle.path_runs.specs.runs.table_log.Fitting.{changes_of}
-use Rattle.path_runs.specs.runs.table_log.Logs.{table_of}
 use Rattle.path_runs.proofs.runs.table_apply.InForce.{origin_in_time}
 use Rattle.path_runs.specs.runs.store_api.Rows.{has_key}
 use Rattle.path_runs.specs.runs.store_api.Versions.{version_of}
@@ -226,15 +225,15 @@ module _ (setup : SetupState) (ok : IsSetup setup) (past : List Entry) (run : Is
         before = origin_in_time setup (changes_of log.raft.log) log.acted g key b.0 b.1 known;
       }
 
-  in_time_told : IsInTime told g key
+  pub in_time_told : IsInTime told g key
   in_time_told = in_time told g key starts [] told refl
 
-  in_time_there : (n : ℕ) → n < setup.nodes → IsInTime (history_of setup n past) g key
+  pub in_time_there : (n : ℕ) → n < setup.nodes → IsInTime (history_of setup n past) g key
   in_time_there n below =
       let t = tells setup past run n below in
       in_time_older t.newer (history_of setup n past) g key (subst (λ (bs : Branches). IsInTime bs g key) (t.told ∙ t.is) in_time_told)
 
-  had_then : (branch : Id) (birth : BranchBirth) → birth_of told branch ≡ Some birth → has_key birth.region setup.hashes key ≡ true → BeginsAnew setup branch birth key ⊎ HadOrigin setup past branch birth key
+  pub had_then : (branch : Id) (birth : BranchBirth) → birth_of told branch ≡ Some birth → has_key birth.region setup.hashes key ≡ true → BeginsAnew setup branch birth key ⊎ HadOrigin setup past branch birth key
   had_then branch birth there has =
       let at = stands told branch birth there in
       elim (came_by at.newer at.older (branch, birth) at.is) [
@@ -254,14 +253,3 @@ module _ (setup : SetupState) (ok : IsSetup setup) (past : List Entry) (run : Is
                   ∙ ap (λ k. version_of (state setup k m).versions key) (sym own.node_is);
             })
       ]
-
-pub told_in_time : (setup : SetupState) → IsSetup setup → (past : List Entry) → IsRun setup past → (key : List ℕ) → IsInTime (told_table setup past).history (hash_of key setup.hashes) key
-told_in_time setup ok past run key = in_time_told setup ok past run key
-
-pub tables_in_time : (setup : SetupState) → IsSetup setup → (past : List Entry) → IsRun setup past → (n : ℕ) → n < setup.nodes → (key : List ℕ)
-    → IsInTime (table_of (state setup n past).log).history (hash_of key setup.hashes) key
-tables_in_time setup ok past run n below key = in_time_there setup ok past run key n below
-
-pub origins_had : (setup : SetupState) → IsSetup setup → (past : List Entry) → IsRun setup past → (branch : Id) (birth : BranchBirth) → birth_of (told_table setup past).history branch ≡ Some birth
-    → (key : List ℕ) → has_key birth.region setup.hashes key ≡ true → BeginsAnew setup branch birth key ⊎ HadOrigin setup past branch birth key
-origins_had setup ok past run branch birth there key has = had_then setup ok past run key branch birth there has

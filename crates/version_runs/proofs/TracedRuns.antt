@@ -199,6 +199,12 @@ due_birth t a initial e =
 
 -- ---- an entry
 
+some_version : (setup : SetupState) → IsSetup setup → (past : List Entry) → IsRun setup past → (n : ℕ) → 0 < (state setup n past).versions.hashes
+some_version setup ok past run n =
+    let some = some_hash setup ok in
+    let same = (run_roles setup ok past run n).roles.hashes_are in
+    omega (arith, some, same)
+
 module _ (setup : SetupState) (ok : IsSetup setup) (past : List Entry) (e : Entry) (run : IsRun setup (e ∷ past)) (h : RunTraced setup past) where
   abbrev n : ℕ
   n = e.node.0
@@ -303,16 +309,10 @@ module _ (setup : SetupState) (ok : IsSetup setup) (past : List Entry) (e : Entr
   tells None k = tt
   tells (Some c) k = λ f i stream is ours. joined_at f i (timestamp_of stream.part) (k f i stream is ours)
 
-  hashes : 0 < s.versions.hashes
-  hashes =
-      let some = some_hash setup ok in
-      let same = (run_roles setup ok past run.1 n).roles.hashes_are in
-      omega (arith, some, same)
-
   says : MaySay (SessionAt setup whole) (WholeTraced P) AnyPoint s e.input b
   says =
       record {
-        maps = λ r. masked_traced P r s.versions hashes own.versions_are;
+        maps = λ r. masked_traced P r s.versions (some_version setup ok past run.1 n) own.versions_are;
         stand = λ f i. joined_at f i f.position (own.follows f i).stands;
         next = tells b (follow b came);
         points = λ op key what is x i j. (
@@ -406,15 +406,9 @@ run_traced setup ok (e ∷ past) run = traced_next setup ok past e run (run_trac
 -- ---- stores
 
 module _ (setup : SetupState) (ok : IsSetup setup) (past : List Entry) (run : IsRun setup past) where
-  some_version : (n : ℕ) → 0 < (state setup n past).versions.hashes
-  some_version n =
-      let some = some_hash setup ok in
-      let same = (run_roles setup ok past run n).roles.hashes_are in
-      omega (arith, some, same)
-
   pub stored : (n : ℕ) (key : List ℕ) (version : Version) → version_of (state setup n past).versions key ≡ Some version → IsTraced setup past version
   stored n key version is =
-      ((run_traced setup ok past run).stores n).versions_are (hash_of key (state setup n past).versions.hashes) key version (mod-lt (sum key) (some_version n)) is
+      ((run_traced setup ok past run).stores n).versions_are (hash_of key (state setup n past).versions.hashes) key version (mod-lt (sum key) (some_version setup ok past run n)) is
 
   pub followed : (n : ℕ) (f : Following) → IsIn (state setup n past).followings f → IsPointOf setup past f.branch f.position
   followed n f i = (((run_traced setup ok past run).stores n).follows f i).stands

@@ -73,10 +73,9 @@ pub fn histories_in_time_of_runs()
     ensures told { (setup : SetupState) → IsSetup setup → (past : List Entry) → IsRun setup past
         → (key : List ℕ) → IsInTime (told_table setup past).history (hash_of key setup.hashes) key }
     ensures tables { (setup : SetupState) → IsSetup setup → (past : List Entry) → IsRun setup past
-        → (n : ℕ) → n < setup.nodes → (key : List ℕ)
+        → (key : List ℕ) (n : ℕ) → n < setup.nodes
         → IsInTime (table_of (state setup n past).log).history (hash_of key setup.hashes) key }
     ensures had { (setup : SetupState) → IsSetup setup → (past : List Entry) → IsRun setup past
-        → (branch : Id) (birth : BranchBirth) → birth_of (told_table setup past).history branch ≡ Some birth
-        → (key : List ℕ) → has_key birth.region setup.hashes key ≡ true
-        → BeginsAnew setup branch birth key ⊎ HadOrigin setup past branch birth key }
+        → (key : List ℕ) (branch : Id) (birth : BranchBirth) → birth_of (told_table setup past).history branch ≡ Some birth
+        → has_key birth.region setup.hashes key ≡ true → BeginsAnew setup branch birth key ⊎ HadOrigin setup past branch birth key }
 {}
