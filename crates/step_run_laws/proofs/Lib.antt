@@ -1,0 +1,4 @@
+pub mod Going
+pub mod Quiet
+pub mod Readies
+pub mod Taking

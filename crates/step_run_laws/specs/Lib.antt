@@ -1,0 +1,2 @@
+pub use Rattle.path_runs.specs.runs as runs
+pub mod Synced

@@ -1,0 +1,62 @@
+//! Laws of each entry of a run. Nodes tick, go down and come up, and messages come in any order, again and again, or never.
+ghost use Rattle.std.specs.Prelude.{◌≡◌, ◌+◌, ◌∷◌, [], ◌⊎◌, ℕ, List, Some, length, true, false};
+ghost use Rattle.list_laws.specs.Members.{IsIn};
+ghost use Rattle.path_runs.specs.runs.region_map.declared.id.Id.{Id};
+ghost use Rattle.path_runs.specs.runs.region_map.declared.id.NodeId.{NodeId};
+ghost use Rattle.path_runs.specs.runs.register_laws.declared.operation.OpId.{OpId};
+ghost use Rattle.path_runs.specs.runs.register_laws.declared.operation.Op.{Op};
+ghost use Rattle.path_runs.specs.runs.contract_types.Setup.{SetupState, IsSetup};
+ghost use Rattle.path_runs.specs.runs.contract_types.declared.ack.Ack.TheVariants.{Ready};
+ghost use Rattle.path_runs.specs.runs.contract_types.declared.applied.Applied.{Applied};
+ghost use Rattle.path_runs.specs.runs.contract_types.declared.change.Change.{Change};
+ghost use Rattle.path_runs.specs.runs.exec_types.declared.input.Input.TheVariants.{Request};
+ghost use Rattle.path_runs.specs.runs.exec_types.declared.message.Message.TheVariants.{Say};
+ghost use Rattle.path_runs.specs.runs.exec_types.declared.outcome.Outcome.TheVariants.{Done};
+ghost use Rattle.path_runs.specs.runs.exec_types.declared.output.Output.TheVariants.{Message, Viewed, Answer};
+ghost use Rattle.path_runs.specs.runs.write_dispatch.declared.decided.Decided.{Decided};
+ghost use Rattle.path_runs.specs.runs.primary_exec.Execution.{Execution};
+ghost use Rattle.path_runs.specs.runs.node_core.declared.journal.Entry.{Entry};
+ghost use Rattle.path_runs.specs.runs.Run.{IsRun, state};
+ghost use Rattle.path_runs.specs.runs.Serving.{is_served_by};
+ghost use Rattle.path_runs.specs.runs.Committed.{viewed_by};
+ghost use Rattle.step_laws.specs.Counting.{StillWaits, has_majorities};
+ghost use Rattle.step_laws.specs.Outs.{GoesOn, dispatched_in, refused_in};
+ghost use Rattle.step_run_laws.specs.Synced.{IsReadyRightly};
+
+/// In every run, a request is taken up in the entry that brings it: where its node is to serve the key, by its table, its
+/// life and the contract's tenure, the operation is dispatched, once and alone, on that key; else it is answered "not
+/// serving".
+pub fn requests_are_taken_up()
+    ensures dispatched { (setup : SetupState) → IsSetup setup → (past : List Entry) (e : Entry) → IsRun setup (e ∷ past)
+        → (op : OpId) (key : List ℕ) (what : Op) → e.input ≡ Request op key what → is_served_by (state setup e.node.0 past) key ≡ true
+        → (dispatched_in e.outputs ≡ (op, key) ∷ []) × (refused_in e.outputs ≡ []) }
+    ensures refused { (setup : SetupState) → IsSetup setup → (past : List Entry) (e : Entry) → IsRun setup (e ∷ past)
+        → (op : OpId) (key : List ℕ) (what : Op) → e.input ≡ Request op key what → is_served_by (state setup e.node.0 past) key ≡ false
+        → (dispatched_in e.outputs ≡ []) × (refused_in e.outputs ≡ op ∷ []) }
+{}
+
+/// In every run, nothing waits at a node whose timestamp has a majority; and what waited at the node of an entry waits there
+/// still, or is answered in the entry that it is done, unless the node goes down or the client gives it up.
+pub fn majorities_are_answered()
+    ensures none_is_left { (setup : SetupState) → IsSetup setup → (past : List Entry) → IsRun setup past
+        → (n : ℕ) (x : Execution) (d : Decided) → IsIn (state setup n past).executions x → IsIn x.dispatch.waiting d → has_majorities x d.at ≡ false }
+    ensures done { (setup : SetupState) → IsSetup setup → (past : List Entry) (e : Entry) → IsRun setup (e ∷ past)
+        → (x : Execution) (d : Decided) (op : OpId) → IsIn (state setup e.node.0 past).executions x → IsIn x.dispatch.waiting d → d.op ≡ Some op → GoesOn e.input op
+        → IsIn e.outputs (Answer op (Done d.reply x.branch d.at)) ⊎ StillWaits (state setup e.node.0 (e ∷ past)).executions x.branch d }
+{}
+
+/// In every run, a node that tells on what it acted names the index behind the changes that it told of before.
+pub fn told_views_go_on()
+    ensures { (setup : SetupState) → IsSetup setup → (past : List Entry) (e : Entry) → IsRun setup (e ∷ past)
+        → (first : ℕ) (results : List (Change × Applied)) → IsIn e.outputs (Viewed first results)
+        → first ≡ length (viewed_by e.node.0 past) + 1 }
+{}
+
+/// In every run, a node says that it is ready under a contract only where it executes the contract and either writes a branch
+/// with which the table began, or its sync under that contract was counted, at an earlier moment, at more than half of the
+/// contract's voters, and of its voters to come.
+pub fn ready_primaries_are_synced()
+    ensures { (setup : SetupState) → IsSetup setup → (past : List Entry) (e : Entry) → IsRun setup (e ∷ past)
+        → (to : NodeId) (contract : Id) → IsIn e.outputs (Message to (Say contract Ready))
+        → (x : Execution) × (IsIn (state setup e.node.0 past).executions x) × (x.contract.id ≡ contract) × IsReadyRightly setup past e.node.0 x }
+{}

@@ -1,0 +1,14 @@
+//! Laws of each step of a run: what it does at once.
+//!
+//! Above: nothing. Below: `step_laws`, `answer_runs`.
+//! Promise: a request is dispatched or refused in the entry that brings it, by the table of its node; after each entry
+//! nothing waits that has a majority; what a node tells of the log goes on behind what it told before; and it says that it
+//! is ready only where the sync under its contract was counted at majorities.
+//! Words: docs/PROMISES.md.
+#![tactic(auto)]
+
+pub use laws::{
+    majorities_are_answered, ready_primaries_are_synced, requests_are_taken_up, told_views_go_on,
+};
+
+pub mod laws;
