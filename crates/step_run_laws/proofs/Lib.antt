@@ -1,5 +1,6 @@
 pub mod Asking
 pub mod Going
+pub mod Joined
 pub mod Quiet
 pub mod Readies
 pub mod Taking

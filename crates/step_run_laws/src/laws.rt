@@ -13,14 +13,18 @@ ghost use Rattle.path_runs.specs.runs.contract_types.declared.contract.Contract.
 ghost use Rattle.path_runs.specs.runs.contract_types.declared.contract.Holder.{Holder};
 ghost use Rattle.path_runs.specs.runs.table_log.Logs.{table_of};
 ghost use Rattle.path_runs.specs.runs.store_api.Rows.{has_key};
-ghost use Rattle.path_runs.specs.runs.exec_types.declared.input.Input.TheVariants.{Request, Tick};
-ghost use Rattle.path_runs.specs.runs.exec_types.declared.message.Message.TheVariants.{Say};
+ghost use Rattle.path_runs.specs.runs.exec_types.declared.input.Input.TheVariants.{Request, Tick, Deliver};
+ghost use Rattle.path_runs.specs.runs.exec_types.declared.message.Message.TheVariants as message;
 ghost use Rattle.path_runs.specs.runs.exec_types.declared.outcome.Outcome.TheVariants.{Done};
 ghost use Rattle.path_runs.specs.runs.exec_types.declared.output.Output.TheVariants.{Message, Viewed, Answer};
 ghost use Rattle.path_runs.specs.runs.write_dispatch.declared.decided.Decided.{Decided};
 ghost use Rattle.path_runs.specs.runs.primary_exec.Execution.{Execution};
 ghost use Rattle.path_runs.specs.runs.node_core.declared.journal.Entry.{Entry};
-ghost use Rattle.path_runs.specs.runs.Run.{IsRun, state};
+ghost use Rattle.path_runs.specs.runs.Run.{IsRun, message_at, state};
+ghost use Rattle.path_runs.specs.runs.declared.envelope.Envelope.{Envelope};
+ghost use Rattle.path_runs.specs.runs.exec_types.declared.message.Stream.{Stream};
+ghost use Rattle.path_runs.specs.runs.secondary_exec.declared.following.Following.{Following};
+ghost use Rattle.step_laws.specs.Follows.{IsApplied};
 ghost use Rattle.path_runs.specs.runs.Serving.{is_served_by};
 ghost use Rattle.path_runs.specs.runs.Committed.{viewed_by};
 ghost use Rattle.step_laws.specs.Counting.{StillWaits, has_majorities};
@@ -60,6 +64,18 @@ pub fn primaries_serve_or_ask()
         → (is_served_by (state setup e.node.0 past) key ≡ true) ⊎ ((branch : Id) × AsksFor e.outputs leader c.id branch) }
 {}
 
+/// In every run, a secondary that is given the next part of its session, by its primary, applies it in the entry that brings
+/// it, and tells its primary so: each key of its region stands at the part's timestamp then, and the part's key has its row.
+/// The region is one that has a key.
+pub fn given_parts_are_applied()
+    ensures { (setup : SetupState) → IsSetup setup → (past : List Entry) (e : Entry) → IsRun setup (e ∷ past)
+        → (number : ℕ) (m : Envelope) (f : Following) (stream : Stream) (key : List ℕ) → e.input ≡ Deliver number
+        → message_at past number ≡ Some m → m.from.0 ≡ f.primary.0 → m.message ≡ message.Stream stream
+        → IsIn (state setup e.node.0 past).followings f → has_key f.region setup.hashes key ≡ true
+        → stream.session ≡ f.session → stream.number ≡ f.got + 1
+        → IsApplied (state setup e.node.0 past) (record { node = state setup e.node.0 (e ∷ past); outs = e.outputs }) f stream }
+{}
+
 /// In every run, a node that tells on what it acted names the index behind the changes that it told of before.
 pub fn told_views_go_on()
     ensures { (setup : SetupState) → IsSetup setup → (past : List Entry) (e : Entry) → IsRun setup (e ∷ past)
@@ -72,6 +88,6 @@ pub fn told_views_go_on()
 /// contract's voters, and of its voters to come.
 pub fn ready_primaries_are_synced()
     ensures { (setup : SetupState) → IsSetup setup → (past : List Entry) (e : Entry) → IsRun setup (e ∷ past)
-        → (to : NodeId) (contract : Id) → IsIn e.outputs (Message to (Say contract Ready))
+        → (to : NodeId) (contract : Id) → IsIn e.outputs (Message to (message.Say contract Ready))
         → (x : Execution) × (IsIn (state setup e.node.0 past).executions x) × (x.contract.id ≡ contract) × IsReadyRightly setup past e.node.0 x }
 {}

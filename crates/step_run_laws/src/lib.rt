@@ -8,8 +8,8 @@
 #![tactic(auto)]
 
 pub use laws::{
-    majorities_are_answered, primaries_serve_or_ask, ready_primaries_are_synced,
-    requests_are_taken_up, told_views_go_on,
+    given_parts_are_applied, majorities_are_answered, primaries_serve_or_ask,
+    ready_primaries_are_synced, requests_are_taken_up, told_views_go_on,
 };
 
 pub mod laws;
