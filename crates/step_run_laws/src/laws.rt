@@ -1,12 +1,18 @@
 //! Laws of each entry of a run. Nodes tick, go down and come up, and messages come in any order, again and again, or never.
-ghost use Rattle.std.specs.Prelude.{◌≡◌, ◌+◌, ◌∷◌, [], ◌⊎◌, ℕ, List, Some, length, true, false};
+ghost use Rattle.std.specs.Prelude.{◌≡◌, ◌+◌, ◌∷◌, [], ◌⊎◌, ◌≤◌, ℕ, List, Some, length, drop, true, false};
 ghost use Rattle.list_laws.specs.Members.{IsIn};
 ghost use Rattle.path_runs.specs.runs.region_map.declared.id.Id.{Id};
 ghost use Rattle.path_runs.specs.runs.region_map.declared.id.NodeId.{NodeId};
 ghost use Rattle.path_runs.specs.runs.register_laws.declared.operation.OpId.{OpId};
 ghost use Rattle.path_runs.specs.runs.register_laws.declared.operation.Op.{Op};
 ghost use Rattle.path_runs.specs.runs.contract_types.Setup.{SetupState, IsSetup};
-ghost use Rattle.path_runs.specs.runs.contract_types.declared.ack.Ack.TheVariants.{Ready};
+ghost use Rattle.path_runs.specs.runs.contract_types.declared.ack.Ack.TheVariants.{NeedBranch, Ready};
+ghost use Rattle.path_runs.specs.runs.region_map.Maps.{Pieced};
+ghost use Rattle.path_runs.specs.runs.branch_history.declared.version.Version.{Version};
+ghost use Rattle.path_runs.specs.runs.branch_history.Histories.{knows};
+ghost use Rattle.path_runs.specs.runs.raft_vote.Rows.{is_leader};
+ghost use Rattle.path_runs.specs.runs.coordinator.Acks.{ack_of};
+ghost use Rattle.path_runs.specs.runs.contract_types.declared.change.Change.TheVariants.{RegisterBranch};
 ghost use Rattle.path_runs.specs.runs.contract_types.declared.applied.Applied.{Applied};
 ghost use Rattle.path_runs.specs.runs.contract_types.declared.change.Change.{Change};
 ghost use Rattle.path_runs.specs.runs.contract_types.declared.contract.Contract.{Contract};
@@ -62,6 +68,21 @@ pub fn primaries_serve_or_ask()
         → IsIn (table_of (state setup e.node.0 past).log).contracts c → has_key c.region setup.hashes key ≡ true
         → c.primary ≡ Some holder → holder.server.0 ≡ e.node.0
         → (is_served_by (state setup e.node.0 past) key ≡ true) ⊎ ((branch : Id) × AsksFor e.outputs leader c.id branch) }
+{}
+
+/// In every run, a leader that acts on all of its log appends at a tick, in its own term, each branch for which a primary's
+/// last ack asks and which is not registered, unless its log is full then.
+pub fn leaders_append_what_is_asked()
+    ensures { (setup : SetupState) → IsSetup setup → (past : List Entry) (e : Entry) → IsRun setup (e ∷ past)
+        → (c : Contract) (holder : Holder) (branch : Id) (based_on : Pieced Id) (origin : Pieced Version) → e.input ≡ Tick
+        → is_leader (state setup e.node.0 past).log.raft.votes.role ≡ true
+        → (state setup e.node.0 past).log.raft.view ≡ length (state setup e.node.0 past).log.raft.log
+        → IsIn (table_of (state setup e.node.0 past).log).contracts c → c.primary ≡ Some holder
+        → ack_of (state setup e.node.0 past).acks c.id holder.server ≡ Some (NeedBranch branch based_on origin)
+        → knows (table_of (state setup e.node.0 past).log).history branch ≡ false
+        → IsIn (drop (length (state setup e.node.0 past).log.raft.log) (state setup e.node.0 (e ∷ past)).log.raft.log)
+        (record { term = (state setup e.node.0 past).log.raft.votes.term; change = RegisterBranch branch c.region c.tenure holder.server based_on origin })
+        ⊎ (128 ≤ length (state setup e.node.0 (e ∷ past)).log.raft.log) }
 {}
 
 /// In every run, a secondary that is given the next part of its session, by its primary, applies it in the entry that brings
