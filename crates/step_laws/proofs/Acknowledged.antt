@@ -1,9 +1,9 @@
 -- An acknowledgement is counted in the step that brings it.
-use Rattle.std.proofs.Common.{◌≡◌, ◌≤◌, ◌<◌, ◌⊎◌, ◌==◌, ◌&&◌, ◌||◌, ℕ, Bool, true, false, cond, max, min, nat_lt, nat_le, List, [], ◌∷◌, map, length, Option, Some, None, slice_set, refl, sym, ap, ◌∙◌, subst, inl, inr, arith, eq-eqb}
-use Rattle.std.proofs.lemmas.Bool.{cond_both, and_from, lt-ltb, le-leb, both_ways, or_right}
+use Rattle.std.proofs.Common.{◌≡◌, ◌≤◌, ◌<◌, ◌==◌, ◌||◌, ℕ, Bool, true, false, cond, nat_lt, nat_le, List, [], ◌∷◌, map, length, Option, Some, None, slice_set, refl, sym, ap, ◌∙◌, subst, inl, inr, arith, eq-eqb}
+use Rattle.std.proofs.lemmas.Bool.{cond_both, and_from, lt-ltb, le-leb, or_right}
 use Rattle.std.proofs.lemmas.Bool.Decides.{nat_tests}
 use Rattle.std.proofs.lemmas.List.{get_or-set_same}
-use Rattle.std.specs.List.{list_any, slice_index_or}
+use Rattle.std.specs.List.{slice_index_or}
 use Rattle.list_laws.specs.Members.{IsIn}
 use Rattle.runs.specs.region_map.declared.id.NodeId.{NodeId}
 use Rattle.runs.specs.region_map.Equal.{same_id}
@@ -18,15 +18,14 @@ use Rattle.runs.specs.exec_types.declared.message.Got.{Got}
 use Rattle.runs.specs.exec_types.declared.message.Message.TheVariants as message
 use Rattle.runs.specs.exec_types.declared.message.SessionName.{SessionName}
 use Rattle.runs.specs.write_dispatch.declared.decided.KeptAck.{KeptAck}
-use Rattle.runs.specs.write_dispatch.Dispatch.{Acks, DispatchState, ack_of, exceeds, with_ack}
+use Rattle.runs.specs.write_dispatch.Dispatch.{Acks, ack_of, exceeds, with_ack}
 use Rattle.runs.specs.primary_exec.declared.asking.Asking.{Asking}
 use Rattle.runs.specs.primary_exec.declared.session.Session.{Session}
-use Rattle.runs.specs.primary_exec.Execution.{Execution, started, is_session, is_any_session, is_live, with_acked, with_stands, got_row, decided}
+use Rattle.runs.specs.primary_exec.Execution.{Execution, started, is_session, is_any_session, with_acked, with_stands, got_row, decided}
 use Rattle.runs.specs.node_core.declared.node.Brought.{Brought}
-use Rattle.runs.specs.node_core.Parts.{got_all, decide_all}
 use Rattle.runs.specs.node_core.Starting.{Starting, place_of, placed, due, start_one, start_each}
 use Rattle.runs.specs.node_core.Step.{NodeState, Stepped, silent, take_got, is_well_formed, brought_row, act_on, act, end_step, node_step}
-use Rattle.step_laws.specs.Counting.{tells_of, stands_at, CountsIt}
+use Rattle.step_laws.specs.Counting.{tells_of, CountsIt}
 
 -- ---- members
 

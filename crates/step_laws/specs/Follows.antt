@@ -1,5 +1,5 @@
 -- What a secondary has once it has applied a part.
-use Rattle.std.specs.Prelude.{◌≡◌, ◌<◌, ℕ, true, List, Some}
+use Rattle.std.specs.Prelude.{◌≡◌, ℕ, true, List, Some}
 use Rattle.list_laws.specs.Members.{IsIn}
 use Rattle.runs.specs.region_map.Maps.{Pieced}
 use Rattle.runs.specs.branch_history.declared.version.Version.{Version}
