@@ -1,5 +1,5 @@
 -- A secondary applies the next part of its session.
-use Rattle.std.proofs.Common.{◌≡◌, ◌<◌, ℕ, ◌+◌, ◌==◌, true, false, cond, ◌&&◌, nat_lt, nat_le, List, [], ◌∷◌, Some, None, refl, sym, ap, ap₂, ◌∙◌, subst, inl, inr, arith, eq-eqb, sum}
+use Rattle.std.proofs.Common.{◌≡◌, ◌<◌, ℕ, ◌+◌, ◌==◌, true, false, cond, nat_lt, nat_le, List, [], ◌∷◌, Some, None, refl, sym, ap, ap₂, ◌∙◌, subst, inl, inr, arith, eq-eqb, sum}
 use Rattle.std.proofs.lemmas.Bool.{cond_both, and_parts, and_from, lt-ltb, both_ways}
 use Rattle.std.proofs.lemmas.Bool.Decides.{nat_tests}
 use Rattle.std.proofs.Math.Nat.{mod-lt}
@@ -14,7 +14,7 @@ use Rattle.runs.specs.branch_history.declared.version.Version.{Version}
 use Rattle.runs.proofs.branch_history.PathLaws.{id_same, id_self}
 use Rattle.runs.specs.store_api.declared.Row.{Row}
 use Rattle.runs.specs.store_api.Rows.{Rows, has_key, row_of, with_row}
-use Rattle.runs.specs.store_api.Versions.{point, is_behind, comes_to, advanced_rows, advanced_map}
+use Rattle.runs.specs.store_api.Versions.{point, is_behind, version_of, comes_to, advanced_rows, advanced_map}
 use Rattle.runs.proofs.store_api.RowLemmas.{row_of-with_row_same}
 use Rattle.runs.proofs.store_api.VersionMaps.{advanced_map_at, advanced_map_hashes}
 use Rattle.runs.specs.exec_types.Parts.{timestamp_of, effect_of}
@@ -94,27 +94,29 @@ behind : (branch : Id) (at to : ℕ) → at < to → is_behind branch to (Some (
 behind branch at to l = and_from (same_id branch branch) (nat_lt at to) (id_self branch) (lt-ltb at to l)
 
 module _ (s : NodeState) (f : Following) (stands : StandsThere s.versions f) where
-  stands_later : (at h : ℕ) (k : List ℕ) → f.position < at → h < s.versions.hashes → in_region f.region h k ≡ true → value_at (advanced_map f.region f.branch at s.versions).pieces h k ≡ Some (point f.branch at)
-  stands_later at h k above low i =
-      let is_there = stands h k low i in
-      let comes : (in_region f.region h k && is_behind f.branch at (value_at s.versions.pieces h k)) ≡ true =
-      and_from (in_region f.region h k) (is_behind f.branch at (value_at s.versions.pieces h k)) i (ap (is_behind f.branch at) is_there ∙ behind f.branch f.position at above) in
-      advanced_map_at f.region f.branch at s.versions h k low ∙ ap (λ b. cond b (Some (point f.branch at)) (value_at s.versions.pieces h k)) comes
+  -- a key of the region comes to what is above
+  comes_later : (at : ℕ) (key : List ℕ) → f.position < at → has_key f.region s.versions.hashes key ≡ true → comes_to f.region f.branch at s.versions key ≡ true
+  comes_later at key above i =
+      and_from (in_region f.region (hash_of key s.versions.hashes) key) (is_behind f.branch at (version_of s.versions key)) i
+      (ap (is_behind f.branch at) (stands key i) ∙ behind f.branch f.position at above)
 
-  row_there : (at : ℕ) (key : List ℕ) (row : Row) → 0 < s.versions.hashes → f.position < at → has_key f.region s.versions.hashes key ≡ true
-      → row_of (advanced_rows (effect_of (Write at key row)) f.region f.branch at s.versions s.rows) key ≡ Some row
-  row_there at key row some above i =
+  stands_later : (at : ℕ) (key : List ℕ) → 0 < s.versions.hashes → f.position < at → has_key f.region s.versions.hashes key ≡ true
+      → value_at (advanced_map f.region f.branch at s.versions).pieces (hash_of key s.versions.hashes) key ≡ Some (point f.branch at)
+  stands_later at key some above i =
       let g : ℕ = hash_of key s.versions.hashes in
-      let is_there = stands g key (mod-lt (sum key) some) i in
-      let comes : comes_to f.region f.branch at s.versions key ≡ true =
-      and_from (in_region f.region g key) (is_behind f.branch at (value_at s.versions.pieces g key)) i (ap (is_behind f.branch at) is_there ∙ behind f.branch f.position at above) in
-      ap (λ b. row_of (cond b (with_row s.rows key row) s.rows) key) comes ∙ row_of-with_row_same s.rows key row
+      advanced_map_at f.region f.branch at s.versions g key (mod-lt (sum key) some)
+      ∙ ap (λ b. cond b (Some (point f.branch at)) (value_at s.versions.pieces g key)) (comes_later at key above i)
 
-  has_row : (part : Part) → 0 < s.versions.hashes → f.position < timestamp_of part
+  row_there : (at : ℕ) (key : List ℕ) (row : Row) → f.position < at → has_key f.region s.versions.hashes key ≡ true
+      → row_of (advanced_rows (effect_of (Write at key row)) f.region f.branch at s.versions s.rows) key ≡ Some row
+  row_there at key row above i =
+      ap (λ b. row_of (cond b (with_row s.rows key row) s.rows) key) (comes_later at key above i) ∙ row_of-with_row_same s.rows key row
+
+  has_row : (part : Part) → f.position < timestamp_of part
       → HasRow (advanced_rows (effect_of part) f.region f.branch (timestamp_of part) s.versions s.rows) (advanced_map f.region f.branch (timestamp_of part) s.versions).hashes f part
-  has_row (Write at key row) some above =
-      λ i. row_there at key row some above (ap (λ n. has_key f.region n key) (sym (advanced_map_hashes f.region f.branch at s.versions)) ∙ i)
-  has_row (Sync at) some above = tt
+  has_row (Write at key row) above =
+      λ i. row_there at key row above (ap (λ n. has_key f.region n key) (sym (advanced_map_hashes f.region f.branch at s.versions)) ∙ i)
+  has_row (Sync at) above = tt
 
 -- ---- the step
 
@@ -136,10 +138,12 @@ applies_next s number f stream i once some stands caught known session next abov
     let t : Takes r new = subst (Takes r) (row_is f from stream s.log.acted s.rows s.versions refl session next above) (one_takes f from stream s.log.acted s.rows s.versions refl session s.followings i once) in
     let hashes : (advanced_map f.region f.branch at s.versions).hashes ≡ s.versions.hashes = advanced_map_hashes f.region f.branch at s.versions in
     let stands_now : StandsThere row.node.versions (after_part f stream) =
-    subst (λ (v : Pieced Version). (h : ℕ) (k : List ℕ) → h < v.hashes → in_region f.region h k ≡ true → value_at v.pieces h k ≡ Some (point f.branch at)) (sym t.versions)
-    (λ h k low in_it. stands_later s f stands at h k above (subst (λ n. h < n) hashes low) in_it) in
+    subst (λ (v : Pieced Version). (key : List ℕ) → has_key f.region v.hashes key ≡ true → value_at v.pieces (hash_of key v.hashes) key ≡ Some (point f.branch at)) (sym t.versions)
+    (λ key in_it.
+    ap (λ n. value_at (advanced_map f.region f.branch at s.versions).pieces (hash_of key n) key) hashes
+    ∙ stands_later s f stands at key some above (ap (λ n. has_key f.region n key) (sym hashes) ∙ in_it)) in
     let row_now : HasRow row.node.rows row.node.versions.hashes f stream.part =
-    subst (λ (q : Rows × Pieced Version). HasRow q.0 q.1.hashes f stream.part) (ap₂ (λ (a : Rows) (v : Pieced Version). (a, v)) (sym t.rows) (sym t.versions)) (has_row s f stands stream.part some above) in
+    subst (λ (q : Rows × Pieced Version). HasRow q.0 q.1.hashes f stream.part) (ap₂ (λ (a : Rows) (v : Pieced Version). (a, v)) (sym t.rows) (sym t.versions)) (has_row s f stands stream.part above) in
     let told : Output = acknowledgement (applied f stream) s.log.acted in
     let told_row : IsIn row.outs told = subst (λ (l : List Output). IsIn l told) (sym t.outs) (inl refl) in
     let follows_now : IsIn row.node.followings (after_part f stream) = t.follows in

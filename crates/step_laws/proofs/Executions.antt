@@ -1,5 +1,5 @@
 -- What a step does to the executions of a node, one by one.
-use Rattle.std.proofs.Common.{ℕ, cond, nat_lt, List, [], ◌∷◌, Option, Some, None}
+use Rattle.std.proofs.Common.{ℕ, nat_lt, List, [], ◌∷◌, Option, Some, None}
 use Rattle.std.proofs.lemmas.Bool.{cond_both}
 use Rattle.std.specs.List.{AllByRecursion}
 use Rattle.list_laws.proofs.All.{all_map}

@@ -1,3 +1,4 @@
+pub mod Acknowledged
 pub mod Appends
 pub mod Applies
 pub mod Asks

@@ -1,5 +1,5 @@
 -- Each branch of a table begins at the greatest timestamp of its origin.
-use Rattle.std.proofs.Common.{◌≡◌, ℕ, zero, suc, ◌+◌, ◌≤◌, nat_le, max, List, [], ◌∷◌, refl, subst, sym, ◌∙◌, inl, inr, ◌⊎◌, arith, true, false, cond}
+use Rattle.std.proofs.Common.{◌≡◌, ℕ, zero, suc, ◌+◌, ◌≤◌, nat_le, max, List, [], ◌∷◌, refl, subst, sym, ◌∙◌, inl, inr, ◌⊎◌, arith, true, false}
 use Rattle.std.proofs.lemmas.Bool.Decides.{nat_tests}
 use Rattle.std.specs.List.{AllByRecursion}
 use Rattle.list_laws.specs.Members.{IsIn}

@@ -1,5 +1,5 @@
 -- What a step dispatches and refuses: what its request asks for, once.
-use Rattle.std.proofs.Common.{◌≡◌, ℕ, ◌+◌, true, false, cond, List, [], ◌∷◌, ◌++◌, map, filter, Option, Some, None, refl, ap, ◌∙◌, inl, inr, append-nil}
+use Rattle.std.proofs.Common.{◌≡◌, ℕ, ◌+◌, true, false, List, [], ◌∷◌, ◌++◌, map, filter, Option, Some, None, refl, ap, ◌∙◌, inl, inr, append-nil}
 use Rattle.std.proofs.lemmas.Bool.{cond_both, both_ways}
 use Rattle.list_laws.specs.Members.{IsIn}
 use Rattle.runs.specs.region_map.declared.id.Id.{Id}

@@ -43,3 +43,11 @@ pub record StillWaits (xs : List Execution) (branch : Id) (d : Decided) : Type 0
   pub there : IsIn xs execution
   pub writes : execution.branch ≡ branch
   pub waits : IsIn execution.dispatch.waiting d
+
+-- what an execution is after a step knows that a server stands at a timestamp
+pub record CountsIt (xs : List Execution) (x : Execution) (server at : ℕ) : Type 0 where
+  pub execution : Execution
+  pub there : IsIn xs execution
+  pub writes : execution.branch ≡ x.branch
+  pub under : execution.contract ≡ x.contract
+  pub counted : stands_at execution at server ≡ true

@@ -10,8 +10,8 @@ ghost use Rattle.runs.specs.node_core.Step.{NodeState, node_step};
 ghost use Rattle.step_laws.specs.Follows.{IsApplied, StandsThere};
 
 /// A secondary that is given the next part of its session applies it and tells its primary so, in the step that brings it.
-/// What is asked of the node is that it acts on all that its log has for it, and follows once in each session; that the
-/// region stands where the following says; and that the part lies above.
+/// What is asked of the node is that it acts on all that its log has for it, and follows once in each session; that each
+/// key of the region stands where the following says; and that the part lies above.
 pub fn next_parts_are_applied()
     ensures { (s : NodeState) (number : ℕ) (f : Following) (stream : Stream)
         → IsIn s.followings f → ((g : Following) → IsIn s.followings g → g.session ≡ f.session → g ≡ f) → 0 < s.versions.hashes → StandsThere s.versions f

@@ -10,7 +10,8 @@
 pub use following::next_parts_are_applied;
 pub use leading::{leaders_append_each_plan, leaders_keep_what_they_are_told};
 pub use primaries::{
-    primaries_ask_at_each_tick, requests_are_taken_up_at_once, what_has_a_majority_is_answered,
+    acknowledgements_count_at_once, primaries_ask_at_each_tick, requests_are_taken_up_at_once,
+    what_has_a_majority_is_answered,
 };
 pub use tables::branches_begin_at_their_greatest_origin;
 

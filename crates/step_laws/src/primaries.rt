@@ -1,5 +1,6 @@
 //! Laws of a primary's step.
-ghost use Rattle.std.specs.Prelude.{◌≡◌, ◌≤◌, ◌⊎◌, ◌∷◌, [], ℕ, List, Option, Some, length, true, false};
+ghost use Rattle.std.specs.Prelude.{◌≡◌, ◌≤◌, ◌<◌, ◌⊎◌, ◌∷◌, [], ℕ, List, Option, Some, None, length, true, false};
+ghost use Rattle.std.specs.List.{slice_index_or};
 ghost use Rattle.list_laws.specs.Members.{IsIn};
 ghost use Rattle.runs.specs.region_map.declared.id.Id.{Id};
 ghost use Rattle.runs.specs.region_map.declared.id.NodeId.{NodeId};
@@ -11,16 +12,20 @@ ghost use Rattle.runs.specs.contract_types.declared.contract.Contract.{Contract}
 ghost use Rattle.runs.specs.contract_types.declared.contract.Holder.{Holder};
 ghost use Rattle.runs.specs.table_log.Logs.{table_of};
 ghost use Rattle.runs.specs.exec_types.declared.input.Input.{Input};
-ghost use Rattle.runs.specs.exec_types.declared.input.Input.TheVariants.{Request, Tick};
+ghost use Rattle.runs.specs.exec_types.declared.input.Input.TheVariants.{Request, Tick, Deliver};
+ghost use Rattle.runs.specs.exec_types.declared.message.Got.{Got};
+ghost use Rattle.runs.specs.exec_types.declared.message.Message.TheVariants as message;
 ghost use Rattle.runs.specs.exec_types.declared.outcome.Outcome.TheVariants.{Done};
 ghost use Rattle.runs.specs.exec_types.declared.output.Output.TheVariants.{Dispatched, Answer};
 ghost use Rattle.runs.specs.store_api.Rows.{has_key};
 ghost use Rattle.runs.specs.write_dispatch.declared.decided.Decided.{Decided};
+ghost use Rattle.runs.specs.write_dispatch.declared.decided.KeptAck.{KeptAck};
+ghost use Rattle.runs.specs.primary_exec.declared.session.Session.{Session};
 ghost use Rattle.runs.specs.primary_exec.declared.asking.Asking.{Asking};
 ghost use Rattle.runs.specs.primary_exec.Execution.{Execution};
 ghost use Rattle.runs.specs.node_core.declared.node.Brought.{Brought};
 ghost use Rattle.runs.specs.node_core.Step.{NodeState, node_step};
-ghost use Rattle.step_laws.specs.Counting.{AllWaitInOrder, StillWaits, has_majorities};
+ghost use Rattle.step_laws.specs.Counting.{AllWaitInOrder, CountsIt, StillWaits, has_majorities};
 ghost use Rattle.step_laws.specs.Outs.{AsksFor, GoesOn, dispatched_in, refused_in};
 
 /// A request is taken up in the step that brings it: where the region of an execution has the key, the operation is
@@ -52,6 +57,17 @@ pub fn what_has_a_majority_is_answered()
         → IsIn (node_step s (Request q key what) brought).outs (Dispatched op k branch timestamp)
         → (reply : Reply) × (IsIn (node_step s (Request q key what) brought).outs (Answer op (Done reply branch timestamp))
         ⊎ StillWaits (node_step s (Request q key what) brought).node.executions branch (record { op = Some op; at = timestamp; reply = reply })) }
+{}
+
+/// An acknowledgement of a session counts in the step that brings it: the server is known to stand where it says, if its view
+/// counts for the contract. What is asked of the node is that it has a place for the server's ack, and kept none of a greater
+/// view that tells of less.
+pub fn acknowledgements_count_at_once()
+    ensures { (s : NodeState) (number : ℕ) (from : NodeId) (got : Got) (x : Execution) (session : Session) (at : ℕ)
+        → IsIn s.executions x → IsIn x.sessions session → session.server.0 ≡ from.0 → session.name ≡ got.session → got.stands ≡ Some at
+        → from.0 < s.setup.nodes → from.0 < length x.dispatch.acks → x.contract.since ≤ got.view
+        → ((kept : KeptAck) → slice_index_or x.dispatch.acks from.0 None ≡ Some kept → got.view < kept.view → at ≤ kept.at)
+        → CountsIt (node_step s (Deliver number) (Some (record { from = from; message = message.Got got }))).node.executions x from.0 at }
 {}
 
 /// A primary that waits for its branch asks for it at each tick after which its node knows a leader, whatever else it asks

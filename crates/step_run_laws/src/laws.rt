@@ -1,26 +1,36 @@
 //! Laws of each entry of a run. Nodes tick, go down and come up, and messages come in any order, again and again, or never.
-ghost use Rattle.std.specs.Prelude.{◌≡◌, ◌+◌, ◌∷◌, [], ◌⊎◌, ℕ, List, Some, length, true, false};
+ghost use Rattle.std.specs.Prelude.{◌≡◌, ◌+◌, ◌∷◌, [], ◌⊎◌, ◌≤◌, ℕ, List, Some, length, drop, true, false};
 ghost use Rattle.list_laws.specs.Members.{IsIn};
 ghost use Rattle.path_runs.specs.runs.region_map.declared.id.Id.{Id};
 ghost use Rattle.path_runs.specs.runs.region_map.declared.id.NodeId.{NodeId};
 ghost use Rattle.path_runs.specs.runs.register_laws.declared.operation.OpId.{OpId};
 ghost use Rattle.path_runs.specs.runs.register_laws.declared.operation.Op.{Op};
 ghost use Rattle.path_runs.specs.runs.contract_types.Setup.{SetupState, IsSetup};
-ghost use Rattle.path_runs.specs.runs.contract_types.declared.ack.Ack.TheVariants.{Ready};
+ghost use Rattle.path_runs.specs.runs.contract_types.declared.ack.Ack.TheVariants.{NeedBranch, Ready};
+ghost use Rattle.path_runs.specs.runs.region_map.Maps.{Pieced};
+ghost use Rattle.path_runs.specs.runs.branch_history.declared.version.Version.{Version};
+ghost use Rattle.path_runs.specs.runs.branch_history.Histories.{knows};
+ghost use Rattle.path_runs.specs.runs.raft_vote.Rows.{is_leader};
+ghost use Rattle.path_runs.specs.runs.coordinator.Acks.{ack_of};
+ghost use Rattle.path_runs.specs.runs.contract_types.declared.change.Change.TheVariants.{RegisterBranch};
 ghost use Rattle.path_runs.specs.runs.contract_types.declared.applied.Applied.{Applied};
 ghost use Rattle.path_runs.specs.runs.contract_types.declared.change.Change.{Change};
 ghost use Rattle.path_runs.specs.runs.contract_types.declared.contract.Contract.{Contract};
 ghost use Rattle.path_runs.specs.runs.contract_types.declared.contract.Holder.{Holder};
 ghost use Rattle.path_runs.specs.runs.table_log.Logs.{table_of};
 ghost use Rattle.path_runs.specs.runs.store_api.Rows.{has_key};
-ghost use Rattle.path_runs.specs.runs.exec_types.declared.input.Input.TheVariants.{Request, Tick};
-ghost use Rattle.path_runs.specs.runs.exec_types.declared.message.Message.TheVariants.{Say};
+ghost use Rattle.path_runs.specs.runs.exec_types.declared.input.Input.TheVariants.{Request, Tick, Deliver};
+ghost use Rattle.path_runs.specs.runs.exec_types.declared.message.Message.TheVariants as message;
 ghost use Rattle.path_runs.specs.runs.exec_types.declared.outcome.Outcome.TheVariants.{Done};
 ghost use Rattle.path_runs.specs.runs.exec_types.declared.output.Output.TheVariants.{Message, Viewed, Answer};
 ghost use Rattle.path_runs.specs.runs.write_dispatch.declared.decided.Decided.{Decided};
 ghost use Rattle.path_runs.specs.runs.primary_exec.Execution.{Execution};
 ghost use Rattle.path_runs.specs.runs.node_core.declared.journal.Entry.{Entry};
-ghost use Rattle.path_runs.specs.runs.Run.{IsRun, state};
+ghost use Rattle.path_runs.specs.runs.Run.{IsRun, message_at, state};
+ghost use Rattle.path_runs.specs.runs.declared.envelope.Envelope.{Envelope};
+ghost use Rattle.path_runs.specs.runs.exec_types.declared.message.Stream.{Stream};
+ghost use Rattle.path_runs.specs.runs.secondary_exec.declared.following.Following.{Following};
+ghost use Rattle.step_laws.specs.Follows.{IsApplied};
 ghost use Rattle.path_runs.specs.runs.Serving.{is_served_by};
 ghost use Rattle.path_runs.specs.runs.Committed.{viewed_by};
 ghost use Rattle.step_laws.specs.Counting.{StillWaits, has_majorities};
@@ -60,6 +70,33 @@ pub fn primaries_serve_or_ask()
         → (is_served_by (state setup e.node.0 past) key ≡ true) ⊎ ((branch : Id) × AsksFor e.outputs leader c.id branch) }
 {}
 
+/// In every run, a leader that acts on all of its log appends at a tick, in its own term, each branch for which a primary's
+/// last ack asks and which is not registered, unless its log is full then.
+pub fn leaders_append_what_is_asked()
+    ensures { (setup : SetupState) → IsSetup setup → (past : List Entry) (e : Entry) → IsRun setup (e ∷ past)
+        → (c : Contract) (holder : Holder) (branch : Id) (based_on : Pieced Id) (origin : Pieced Version) → e.input ≡ Tick
+        → is_leader (state setup e.node.0 past).log.raft.votes.role ≡ true
+        → (state setup e.node.0 past).log.raft.view ≡ length (state setup e.node.0 past).log.raft.log
+        → IsIn (table_of (state setup e.node.0 past).log).contracts c → c.primary ≡ Some holder
+        → ack_of (state setup e.node.0 past).acks c.id holder.server ≡ Some (NeedBranch branch based_on origin)
+        → knows (table_of (state setup e.node.0 past).log).history branch ≡ false
+        → IsIn (drop (length (state setup e.node.0 past).log.raft.log) (state setup e.node.0 (e ∷ past)).log.raft.log)
+        (record { term = (state setup e.node.0 past).log.raft.votes.term; change = RegisterBranch branch c.region c.tenure holder.server based_on origin })
+        ⊎ (128 ≤ length (state setup e.node.0 (e ∷ past)).log.raft.log) }
+{}
+
+/// In every run, a secondary that is given the next part of its session, by its primary, applies it in the entry that brings
+/// it, and tells its primary so: each key of its region stands at the part's timestamp then, and the part's key has its row.
+/// The region is one that has a key.
+pub fn given_parts_are_applied()
+    ensures { (setup : SetupState) → IsSetup setup → (past : List Entry) (e : Entry) → IsRun setup (e ∷ past)
+        → (number : ℕ) (m : Envelope) (f : Following) (stream : Stream) (key : List ℕ) → e.input ≡ Deliver number
+        → message_at past number ≡ Some m → m.from.0 ≡ f.primary.0 → m.message ≡ message.Stream stream
+        → IsIn (state setup e.node.0 past).followings f → has_key f.region setup.hashes key ≡ true
+        → stream.session ≡ f.session → stream.number ≡ f.got + 1
+        → IsApplied (state setup e.node.0 past) (record { node = state setup e.node.0 (e ∷ past); outs = e.outputs }) f stream }
+{}
+
 /// In every run, a node that tells on what it acted names the index behind the changes that it told of before.
 pub fn told_views_go_on()
     ensures { (setup : SetupState) → IsSetup setup → (past : List Entry) (e : Entry) → IsRun setup (e ∷ past)
@@ -72,6 +109,6 @@ pub fn told_views_go_on()
 /// contract's voters, and of its voters to come.
 pub fn ready_primaries_are_synced()
     ensures { (setup : SetupState) → IsSetup setup → (past : List Entry) (e : Entry) → IsRun setup (e ∷ past)
-        → (to : NodeId) (contract : Id) → IsIn e.outputs (Message to (Say contract Ready))
+        → (to : NodeId) (contract : Id) → IsIn e.outputs (Message to (message.Say contract Ready))
         → (x : Execution) × (IsIn (state setup e.node.0 past).executions x) × (x.contract.id ≡ contract) × IsReadyRightly setup past e.node.0 x }
 {}
