@@ -1,5 +1,5 @@
 -- What a whole step sends and says.
-use Rattle.std.proofs.Common.{◌≡◌, ◌∙◌, ◌+◌, ◌-◌, ◌==◌, List, [], ◌∷◌, ◌++◌, map, Option, Some, None, inl, inr, refl, sym, ap, subst, append-nil}
+use Rattle.std.proofs.Common.{◌≡◌, ◌∙◌, ◌+◌, ◌-◌, ◌==◌, List, [], ◌∷◌, ◌++◌, Option, Some, None, inl, inr, refl, sym, ap, subst, append-nil}
 use Rattle.std.proofs.lemmas.Bool.{cond_both, eqb-true}
 use Rattle.std.specs.List.{AllByRecursion}
 use Rattle.node_moves.specs.list_laws.Members.{IsIn}
@@ -20,17 +20,13 @@ use Rattle.node_moves.specs.node_core.declared.node.Brought.{Brought}
 use Rattle.node_moves.specs.node_core.Parts.{decide_all_outs}
 use Rattle.node_moves.specs.node_core.Step.{NodeState, Stepped, act, act_on, input_row, node_step}
 use Rattle.node_moves.specs.Says.{RowSays, Dispatches, GivesUp, Quiet, Refuses, Says, ByClient, StepSays, ViewSays, Rises, Stays, spoken}
-use Rattle.node_moves.specs.Sends.{LogMoves, Sends, SendsFrom, StepLogs, logged, unacted}
+use Rattle.node_moves.specs.Sends.{AcksMove, LogMoves, Sends, SendsFrom, StepLogs, logged, unacted}
 use Rattle.node_moves.proofs.Answering.{decided_by, given_by, spoken_all_decided}
 use Rattle.node_moves.proofs.Executions.{AllAwait, awaits_at, starts_await}
-use Rattle.node_moves.proofs.Lists.{AllMessages, AllSpoken, IsSpoken, Messages, logged-append, logged_none, messages_none, spoken-append, spoken_all}
+use Rattle.node_moves.proofs.Lists.{AllMessages, IsIn-mapped, AllSpoken, IsSpoken, Messages, logged-append, logged_none, messages_none, spoken-append, spoken_all}
 use Rattle.node_moves.proofs.RowMoves.{Row, row_moves}
 use Rattle.list_laws.proofs.All.{all_append}
 use Rattle.list_laws.proofs.Members.{IsIn-append, all_member}
-
-IsIn-mapped : {X Y : Type 0} (f : X → Y) (xs : List X) (x : X) → IsIn xs x → IsIn (map f xs) (f x)
-IsIn-mapped f [] x i = absurd i
-IsIn-mapped f (y ∷ xs) x i = elim i [ inl e ↦ inl (ap f e) | inr j ↦ inr (IsIn-mapped f xs x j) ]
 
 -- ---- acting on what was committed
 
@@ -78,6 +74,12 @@ acts_on s input brought r h =
       awaits = starts_await s input r.node.me (table_of (caught_up log)) r.node.asking (record { asking = []; executions = r.node.executions; versions = r.node.versions }) h.awaits;
     })
 
+acts_acks : (r : Stepped) → (act r).node.acks ≡ r.node.acks
+acts_acks r =
+    let log : LogState = r.node.log in
+    let v : Viewed = record { first = log.acted + 1; results = results log } in
+    cond_both (log.acted == log.raft.view) None (Some v) (λ (o : Option Viewed). (act_on r o).node.acks ≡ r.node.acks) (λ _. refl) (λ _. refl)
+
 -- ---- the whole step
 
 module _ (s : NodeState) (input : Input) (brought : Option Brought) where
@@ -103,7 +105,7 @@ module _ (s : NodeState) (input : Input) (brought : Option Brought) where
   view_ended view (Stays e f) = Stays e f
   view_ended view (Rises first results e f) = Rises first results (record { rose = e.rose; first_is = e.first_is; results_are = e.results_are }) f
 
-  pub step_says : StepSays s input end outs
+  pub step_says : StepSays s input end outs (act row).node.executions
   step_says =
       let a = acted in
       let xs : List Execution = (act row).node.executions in
@@ -112,7 +114,6 @@ module _ (s : NodeState) (input : Input) (brought : Option Brought) where
         row_says = done.says;
         view = a.view;
         view_says = view_ended a.view a.view_says;
-        xs = xs;
         after = refl;
         awaits = λ x i. awaits_at s input x (all_member (AllAwait s input) xs a.awaits x i);
         whole =
@@ -132,6 +133,7 @@ module _ (s : NodeState) (input : Input) (brought : Option Brought) where
       record {
         moves = subst (λ log. LogMoves s input brought log (logged outs)) (sym a.log_is) (subst (LogMoves s input brought row.node.log) (sym same) done.moves);
         acts = a.acts;
+        acks = subst (AcksMove s input brought) (sym (acts_acks row)) done.acks;
       }
 
   step_sends : AllMessages (Sends s input brought end) outs
@@ -176,9 +178,9 @@ module _ (s : NodeState) (input : Input) (t : NodeState) where
   of_view view o (Stays same is) i = absurd (subst (λ (l : List Output). IsIn l o) is i)
   of_view view o (Rises first results says is) i = one (output.Viewed first results) o (subst (λ (l : List Output). IsIn l o) is i) says
 
-  of_decided : (all : List Output) (h : StepSays s input t all) (o : Output) → IsIn (decide_all_outs h.xs) o → Says s input t o
-  of_decided all h o i =
-      let d = decided_by h.xs o i in
+  of_decided : (all : List Output) (xs : List Execution) (h : StepSays s input t all xs) (o : Output) → IsIn (decide_all_outs xs) o → Says s input t o
+  of_decided all xs h o i =
+      let d = decided_by xs o i in
       let at = d.2 in
       let known : IsIn d.0.dispatch.waiting (record { op = Some at.op; at = at.d.at; reply = at.d.reply }) =
       subst (IsIn d.0.dispatch.waiting) (λ k. record { op = at.op_is k; at = at.d.at; reply = at.d.reply }) at.is_in in
@@ -186,23 +188,23 @@ module _ (s : NodeState) (input : Input) (t : NodeState) where
       (record {
         awaits = h.awaits d.0 d.1 at.op at.d.at at.d.reply known;
         x = decided d.0;
-        is_in = subst (λ (l : List Execution). IsIn l (decided d.0)) (sym h.after) (IsIn-mapped decided h.xs d.0 d.1);
+        is_in = subst (λ (l : List Execution). IsIn l (decided d.0)) (sym h.after) (IsIn-mapped decided xs d.0 d.1);
         branch_is = refl;
         counted = at.counted;
       })
 
-  spoken_says : (all : List Output) → StepSays s input t all → (o : Output) → IsSpoken o → IsIn all o → Says s input t o
-  spoken_says all h o is i =
-      elim (IsIn-append (h.row ++ h.view) (decide_all_outs h.xs) o (subst (λ (l : List Output). IsIn l o) h.whole (spoken_in all o is i))) [
-        | inr last ↦ of_decided all h o last
+  spoken_says : (all : List Output) (xs : List Execution) → StepSays s input t all xs → (o : Output) → IsSpoken o → IsIn all o → Says s input t o
+  spoken_says all xs h o is i =
+      elim (IsIn-append (h.row ++ h.view) (decide_all_outs xs) o (subst (λ (l : List Output). IsIn l o) h.whole (spoken_in all o is i))) [
+        | inr last ↦ of_decided all xs h o last
         | inl first ↦ elim (IsIn-append h.row h.view o first) [
           | inl j ↦ of_row h.row o h.row_says j
           | inr j ↦ of_view h.view o h.view_says j
         ]
       ]
 
-  pub each_says : (all : List Output) → StepSays s input t all → (o : Output) → IsIn all o → Says s input t o
-  each_says all h (output.Message to m) i = tt
-  each_says all h (output.Dispatched op key branch at) i = spoken_says all h (output.Dispatched op key branch at) tt i
-  each_says all h (output.Viewed first results) i = spoken_says all h (output.Viewed first results) tt i
-  each_says all h (output.Answer op outcome) i = spoken_says all h (output.Answer op outcome) tt i
+  pub each_says : (all : List Output) (xs : List Execution) → StepSays s input t all xs → (o : Output) → IsIn all o → Says s input t o
+  each_says all xs h (output.Message to m) i = tt
+  each_says all xs h (output.Dispatched op key branch at) i = spoken_says all xs h (output.Dispatched op key branch at) tt i
+  each_says all xs h (output.Viewed first results) i = spoken_says all xs h (output.Viewed first results) tt i
+  each_says all xs h (output.Answer op outcome) i = spoken_says all xs h (output.Answer op outcome) tt i

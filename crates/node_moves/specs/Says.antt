@@ -123,13 +123,12 @@ pub data ViewSays (s t : NodeState) (outs : List Output) : Type 0 where
   Stays : t.log.acted ≡ s.log.acted → outs ≡ [] → ViewSays s t outs
   Rises : (first : ℕ) (results : List (Change × Applied)) → SaysViewed s t first results → outs ≡ Viewed first results ∷ [] → ViewSays s t outs
 
--- what the step says
-pub record StepSays (s : NodeState) (input : Input) (t : NodeState) (outs : List Output) : Type 0 where
+-- what the step says: these are the executions before what is decided is answered
+pub record StepSays (s : NodeState) (input : Input) (t : NodeState) (outs : List Output) (xs : List Execution) : Type 0 where
   pub row : List Output
   pub row_says : RowSays s input row
   pub view : List Output
   pub view_says : ViewSays s t view
-  pub xs : List Execution  -- the executions before what is decided is answered
   pub after : t.executions ≡ decide_all xs
   -- each operation that waits there
   pub awaits : (x : Execution) → IsIn xs x → (op : OpId) (at : ℕ) (reply : Reply) → IsIn x.dispatch.waiting (record { op = Some op; at = at; reply = reply })
