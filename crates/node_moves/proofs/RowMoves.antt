@@ -30,7 +30,7 @@ use Rattle.node_moves.specs.node_core.Parts.{Requested, Streamed, give_up_all_ou
 use Rattle.node_moves.specs.node_core.Saying.{says_all}
 use Rattle.node_moves.specs.node_core.Starting.{current_of}
 use Rattle.node_moves.specs.node_core.Step.{NodeState, Stepped, brought_row, coordinates, input_row, is_well_formed, leads, message_fits, message_row, propose_all, propose_one, raft_outs, silent, tick_log, tick_row, with_requested, with_said}
-use Rattle.node_moves.specs.Says.{IsServing, RowSays, Dispatches, GivesUp, Quiet, Refuses, is_quiet, spoken}
+use Rattle.node_moves.specs.Says.{IsServing, RowSays, Dispatches, Refuses, spoken}
 use Rattle.node_moves.specs.Sends.{AcksMove, Kept, Lost, Put, Used, LogMoves, ComesUp, GoesDown, Rests, Takes, Ticks, Proposes, Leaves, Plans, SendsBeside, SendsFrom, logged}
 use Rattle.node_moves.proofs.Answering.{spoken_give_up}
 use Rattle.node_moves.proofs.Executions.{AllAwait, all_pending, give_up_awaits, got_awaits, request_awaits, request_cases}
@@ -79,7 +79,7 @@ logged_sends part (s ∷ ss) = logged_sends part ss
 -- ---- rows that leave the log
 
 -- a node that keeps its log and its followings, and says nothing
-module _ (s : NodeState) (input : Input) (brought : Option Brought) (quiet : is_quiet input ≡ true) where
+module _ (s : NodeState) (input : Input) (brought : Option Brought) (says : RowSays s input []) where
   still : (t : NodeState) → t.log ≡ s.log → AcksMove s input brought t.acks → AllByRecursion (AllAwait s input) t.executions → Row s input brought (silent t)
   still t same acks awaits =
       record {
@@ -88,7 +88,7 @@ module _ (s : NodeState) (input : Input) (brought : Option Brought) (quiet : is_
         moves = Rests same refl;
         acks = acks;
         sends = tt;
-        says = Quiet quiet refl;
+        says = says;
         awaits = awaits;
       }
 
@@ -111,7 +111,7 @@ request_moves s op key what brought =
     let all : P (request_all s.setup.hashes s.executions s.rows s.versions op key what) = elim (request_cases s.setup.hashes s.executions s.rows s.versions op key what) [
       | inl r ↦
           subst P (sym r.result)
-          (λ awaits. record { config = refl; acted = refl; moves = Rests refl refl; acks = Kept refl; sends = (tt, tt); says = Refuses op key what refl r.none refl; awaits = awaits })
+          (λ awaits. record { config = refl; acted = refl; moves = Rests refl refl; acks = Kept refl; sends = (tt, tt); says = Refuses r.none refl; awaits = awaits })
       | inr d ↦
           let part : Part = part_of (value_of s.rows key) (d.x.last + 1) key what in
           let ss : List Session = filter has_room d.x.sessions in
@@ -123,7 +123,7 @@ request_moves s op key what brought =
             moves = Rests refl (logged-append (map (sends part) ss) last ∙ ap (λ (l : List (NodeId × RaftMessage Change)). l ++ []) (logged_sends part ss));
             acks = Kept refl;
             sends = all_append (Messages (SendsFrom s input brought s.log s.followings)) (map (sends part) ss) last (session_sends s op key what brought d.x d.serving ss (λ y i. i)) (tt, tt);
-            says = Dispatches op key what d.x refl d.serving (spoken-append (map (sends part) ss) last ∙ ap (λ (l : List Output). l ++ last) (spoken_sends part ss));
+            says = Dispatches d.x d.serving (spoken-append (map (sends part) ss) last ∙ ap (λ (l : List Output). l ++ last) (spoken_sends part ss));
             awaits = awaits;
           })
     ] in
@@ -139,7 +139,7 @@ give_up_moves s op brought =
       moves = Rests refl (logged_none outs alone);
       acks = Kept refl;
       sends = messages_none (SendsFrom s (GiveUp op) brought s.log s.followings) outs alone;
-      says = GivesUp op refl (spoken_all outs alone);
+      says = spoken_all outs alone;
       awaits = give_up_awaits s (GiveUp op) op s.executions (all_pending s (GiveUp op));
     }
 
@@ -182,7 +182,7 @@ ticked s brought planned acks plans same left =
       sends =
           all_append (Messages (SendsFrom s Tick brought log s.followings)) (raft_outs step.sent) (said planned.acted) (raft_sends s Tick brought log s.followings step.sent moves step.sent (λ x i. i))
           (only_messages (FromTick s brought log) (SendsFrom s Tick brought log s.followings) (beside_more s Tick brought log s.followings) (said planned.acted) only);
-      says = Quiet refl
+      says =
           (spoken-append (raft_outs step.sent) (said planned.acted) ∙ ap (λ (l : List Output). l ++ spoken (said planned.acted)) (spoken_raft step.sent)
           ∙ only_spoken (FromTick s brought log) (said planned.acted) only);
       awaits = all_pending s Tick;
@@ -212,7 +212,7 @@ module _ (s : NodeState) (number : ℕ) (from : NodeId) where
         moves = subst (LogMoves s (Deliver number) (arrived (message.Raft m)) step.log) (sym (logged-raft step.sent)) moves;
         acks = cond_both (leads s.log && leads step.log) s.acks [] (AcksMove s (Deliver number) (arrived (message.Raft m))) (λ _. Kept refl) (λ _. Lost refl);
         sends = raft_sends s (Deliver number) (arrived (message.Raft m)) step.log s.followings step.sent moves step.sent (λ x i. i);
-        says = Quiet refl (spoken_raft step.sent);
+        says = (spoken_raft step.sent);
         awaits = all_pending s (Deliver number);
       }
   message_moves (message.Say contract ack) fitting =
@@ -231,7 +231,7 @@ module _ (s : NodeState) (number : ℕ) (from : NodeId) where
         acks = Kept refl;
         sends = only_messages P (SendsFrom s (Deliver number) (arrived (message.Stream stream)) s.log r.followings)
             (beside_more s (Deliver number) (arrived (message.Stream stream)) s.log r.followings) r.outs only;
-        says = Quiet refl (only_spoken P r.outs only);
+        says = (only_spoken P r.outs only);
         awaits = all_pending s (Deliver number);
       }
   message_moves (message.Got got) fitting =
@@ -252,5 +252,5 @@ row_moves s (GiveUp op) brought = give_up_moves s op brought
 row_moves s (See other up) brought = still s (See other up) brought refl (input_row s (See other up) brought).node refl (Kept refl) (all_pending s (See other up))
 row_moves s Tick brought = tick_moves s brought
 row_moves s (Deliver number) brought = brought_moves s number brought
-row_moves s Crash brought = record { config = refl; acted = refl; moves = GoesDown refl refl refl; acks = Lost refl; sends = tt; says = Quiet refl refl; awaits = tt }
-row_moves s Restart brought = record { config = refl; acted = refl; moves = ComesUp refl refl refl; acks = Lost refl; sends = tt; says = Quiet refl refl; awaits = tt }
+row_moves s Crash brought = record { config = refl; acted = refl; moves = GoesDown refl refl refl; acks = Lost refl; sends = tt; says = refl; awaits = tt }
+row_moves s Restart brought = record { config = refl; acted = refl; moves = ComesUp refl refl refl; acks = Lost refl; sends = tt; says = refl; awaits = tt }

@@ -1,5 +1,5 @@
 -- What a whole step sends and says.
-use Rattle.std.proofs.Common.{◌≡◌, ◌∙◌, ◌+◌, ◌-◌, ◌==◌, List, [], ◌∷◌, ◌++◌, Option, Some, None, inl, inr, refl, sym, ap, subst, append-nil}
+use Rattle.std.proofs.Common.{◌≡◌, ℕ, ◌∙◌, ◌+◌, ◌-◌, ◌==◌, List, [], ◌∷◌, ◌++◌, Option, Some, None, inl, inr, refl, sym, ap, subst, append-nil}
 use Rattle.std.proofs.lemmas.Bool.{cond_both, eqb-true}
 use Rattle.std.specs.List.{AllByRecursion}
 use Rattle.node_moves.specs.list_laws.Members.{IsIn}
@@ -9,7 +9,10 @@ use Rattle.node_moves.specs.contract_types.declared.results.Viewed.{Viewed}
 use Rattle.node_moves.specs.raft_vote.declared.message.RaftMessage.{RaftMessage}
 use Rattle.node_moves.specs.table_log.Fitting.{changes_of}
 use Rattle.node_moves.specs.table_log.Logs.{LogState, caught_up, results, results_from, table_of}
+use Rattle.node_moves.specs.register_laws.declared.operation.OpId.{OpId}
+use Rattle.node_moves.specs.register_laws.declared.operation.Op.{Op}
 use Rattle.node_moves.specs.exec_types.declared.input.Input.{Input}
+use Rattle.node_moves.specs.exec_types.declared.input.Input.TheVariants.{Request, GiveUp, See, Tick, Deliver, Crash, Restart}
 use Rattle.node_moves.specs.exec_types.declared.message.Message.{Message}
 use Rattle.node_moves.specs.exec_types.declared.outcome.Outcome.TheVariants.{NotServing}
 use Rattle.node_moves.specs.exec_types.declared.output.Output.{Output}
@@ -19,7 +22,7 @@ use Rattle.node_moves.specs.primary_exec.Execution.{Execution, decided}
 use Rattle.node_moves.specs.node_core.declared.node.Brought.{Brought}
 use Rattle.node_moves.specs.node_core.Parts.{decide_all_outs}
 use Rattle.node_moves.specs.node_core.Step.{NodeState, Stepped, act, act_on, input_row, node_step}
-use Rattle.node_moves.specs.Says.{RowSays, Dispatches, GivesUp, Quiet, Refuses, Says, ByClient, StepSays, ViewSays, Rises, Stays, spoken}
+use Rattle.node_moves.specs.Says.{RequestSays, RowSays, Dispatches, Refuses, Says, ByClient, StepSays, ViewSays, Rises, Stays, spoken}
 use Rattle.node_moves.specs.Sends.{AcksMove, LogMoves, Sends, SendsFrom, StepLogs, logged, unacted}
 use Rattle.node_moves.proofs.Answering.{decided_by, given_by, spoken_all_decided}
 use Rattle.node_moves.proofs.Executions.{AllAwait, awaits_at, starts_await}
@@ -159,24 +162,35 @@ spoken_in (output.Dispatched op key branch at ∷ outs) o h i = elim i [ inl e �
 spoken_in (output.Viewed first results ∷ outs) o h i = elim i [ inl e ↦ inl e | inr j ↦ inr (spoken_in outs o h j) ]
 spoken_in (output.Answer op outcome ∷ outs) o h i = elim i [ inl e ↦ inl e | inr j ↦ inr (spoken_in outs o h j) ]
 
+-- the row of each input
+module _ (s t : NodeState) (o : Output) where
+  alone : (input : Input) (x : Output) (first : List Output) → first ≡ x ∷ [] → IsIn first o → Says s input t x → Says s input t o
+  alone input x first is i h = elim (subst (λ (l : List Output). IsIn l o) is i) [ inl e ↦ subst (Says s input t) e h | inr none ↦ absurd none ]
+
+  never : (first : List Output) → first ≡ [] → IsIn first o → ⊥
+  never first is i = subst (λ (l : List Output). IsIn l o) is i
+
+  of_request : (op : OpId) (key : List ℕ) (what : Op) (first : List Output) → RequestSays s op key first → IsIn first o → Says s (Request op key what) t o
+  of_request op key what first (Dispatches x serving is) i =
+      alone (Request op key what) (output.Dispatched op key x.branch (x.last + 1)) first is i (record { what = what; asked = refl; x = x; serving = serving; branch_is = refl; next = refl })
+  of_request op key what first (Refuses none is) i =
+      alone (Request op key what) (output.Answer op NotServing) first is i (record { key = key; what = what; asked = refl; none = none })
+
+  of_row : (input : Input) (first : List Output) → RowSays s input first → IsIn first o → Says s input t o
+  of_row (Request op key what) first h i = of_request op key what first h i
+  of_row (GiveUp op) first h i =
+      let g = given_by s.executions op o (subst (λ (l : List Output). IsIn l o) h i) in
+      subst (Says s (GiveUp op) t) g.2.out_is (ByClient g.0 g.2.d refl g.1 g.2.pending refl g.2.short)
+  of_row (See other up) first h i = absurd (never first h i)
+  of_row Tick first h i = absurd (never first h i)
+  of_row (Deliver number) first h i = absurd (never first h i)
+  of_row Crash first h i = absurd (never first h i)
+  of_row Restart first h i = absurd (never first h i)
+
 module _ (s : NodeState) (input : Input) (t : NodeState) where
-  one : (x o : Output) → IsIn (x ∷ []) o → Says s input t x → Says s input t o
-  one x o i h = elim i [ inl e ↦ subst (Says s input t) e h | inr none ↦ absurd none ]
-
-  of_row : (first : List Output) (o : Output) → RowSays s input first → IsIn first o → Says s input t o
-  of_row first o (Dispatches op key what x asked serving is) i =
-      one (output.Dispatched op key x.branch (x.last + 1)) o (subst (λ (l : List Output). IsIn l o) is i)
-      (record { what = what; asked = asked; x = x; serving = serving; branch_is = refl; next = refl })
-  of_row first o (Refuses op key what asked none is) i =
-      one (output.Answer op NotServing) o (subst (λ (l : List Output). IsIn l o) is i) (record { key = key; what = what; asked = asked; none = none })
-  of_row first o (GivesUp op asked is) i =
-      let g = given_by s.executions op o (subst (λ (l : List Output). IsIn l o) is i) in
-      subst (Says s input t) g.2.out_is (ByClient g.0 g.2.d asked g.1 g.2.pending refl g.2.short)
-  of_row first o (Quiet quiet is) i = absurd (subst (λ (l : List Output). IsIn l o) is i)
-
   of_view : (view : List Output) (o : Output) → ViewSays s t view → IsIn view o → Says s input t o
   of_view view o (Stays same is) i = absurd (subst (λ (l : List Output). IsIn l o) is i)
-  of_view view o (Rises first results says is) i = one (output.Viewed first results) o (subst (λ (l : List Output). IsIn l o) is i) says
+  of_view view o (Rises first results says is) i = alone s t o input (output.Viewed first results) view is i says
 
   of_decided : (all : List Output) (xs : List Execution) (h : StepSays s input t all xs) (o : Output) → IsIn (decide_all_outs xs) o → Says s input t o
   of_decided all xs h o i =
@@ -198,7 +212,7 @@ module _ (s : NodeState) (input : Input) (t : NodeState) where
       elim (IsIn-append (h.row ++ h.view) (decide_all_outs xs) o (subst (λ (l : List Output). IsIn l o) h.whole (spoken_in all o is i))) [
         | inr last ↦ of_decided all xs h o last
         | inl first ↦ elim (IsIn-append h.row h.view o first) [
-          | inl j ↦ of_row h.row o h.row_says j
+          | inl j ↦ of_row s t o input h.row h.row_says j
           | inr j ↦ of_view h.view o h.view_says j
         ]
       ]
