@@ -24,7 +24,7 @@ use Rattle.node_moves.specs.secondary_exec.Stream.{FollowingStep, applied, is_ne
 use Rattle.node_moves.specs.node_core.declared.node.Brought.{Brought}
 use Rattle.node_moves.specs.node_core.Parts.{Requested, Streamed, left_alone, stream_all, taken}
 use Rattle.node_moves.specs.node_core.Step.{NodeState, Stepped, brought_row, coordinates, input_row, is_well_formed, leads, message_row, propose_all, silent, tick_log, tick_row, with_requested, with_said}
-use Rattle.node_moves.specs.Parts.{PartsMove, Apply, Fall, Forget, Keep, Rest, Rise, Take, held, up_after}
+use Rattle.node_moves.specs.Parts.{PartsMove, Apply, Fall, Forget, Keep, Rest, Rise, Take, held, next_after, up_after}
 use Rattle.node_moves.proofs.Executions.{request_cases}
 use Rattle.node_moves.proofs.RowMoves.{Same, proposes_all}
 use Rattle.node_moves.proofs.Saying.{stream_cases}
@@ -34,13 +34,14 @@ pub record PartsRow (s : NodeState) (input : Input) (brought : Option Brought) (
   pub me_is : r.node.me ≡ s.me
   pub setup_is : r.node.setup ≡ s.setup
   pub up_is : r.node.up ≡ up_after s.up input
+  pub next_is : r.node.next ≡ next_after s input
 
 request_parts : (s : NodeState) (op : OpId) (key : List ℕ) (what : Op) (brought : Option Brought) → PartsRow s (Request op key what) brought (input_row s (Request op key what) brought)
 request_parts s op key what brought =
     let P : Requested → Type 0 = λ r. PartsRow s (Request op key what) brought (with_requested s r) in
     elim (request_cases s.setup.hashes s.executions s.rows s.versions op key what) [
-      | inl r ↦ subst P (sym r.result) (record { move = Rest r.none refl; me_is = refl; setup_is = refl; up_is = refl })
-      | inr d ↦ subst P (sym d.result) (record { move = Take op key what d.x refl d.serving refl; me_is = refl; setup_is = refl; up_is = refl })
+      | inl r ↦ subst P (sym r.result) (record { move = Rest r.none refl; me_is = refl; setup_is = refl; up_is = refl; next_is = refl })
+      | inr d ↦ subst P (sym d.result) (record { move = Take op key what d.x refl d.serving refl; me_is = refl; setup_is = refl; up_is = refl; next_is = refl })
     ]
 
 -- ---- parts of streams
@@ -93,11 +94,11 @@ part_cases (f ∷ fs) rows versions from stream view =
 
 module _ (s : NodeState) (number : ℕ) where
   message_parts : (from : NodeId) (m : Message) → PartsRow s (Deliver number) (Some (record { from = from; message = m })) (message_row s from m)
-  message_parts from (message.Raft m) = record { move = Rest tt refl; me_is = refl; setup_is = refl; up_is = refl }
+  message_parts from (message.Raft m) = record { move = Rest tt refl; me_is = refl; setup_is = refl; up_is = refl; next_is = refl }
   message_parts from (message.Say contract ack) =
       cond_both (leads s.log) (record s { acks = with_ack contract from ack s.acks }) s
       (λ (t : NodeState). PartsRow s (Deliver number) (Some (record { from = from; message = message.Say contract ack })) (silent t))
-      (λ _. record { move = Rest tt refl; me_is = refl; setup_is = refl; up_is = refl }) (λ _. record { move = Rest tt refl; me_is = refl; setup_is = refl; up_is = refl })
+      (λ _. record { move = Rest tt refl; me_is = refl; setup_is = refl; up_is = refl; next_is = refl }) (λ _. record { move = Rest tt refl; me_is = refl; setup_is = refl; up_is = refl; next_is = refl })
   message_parts from (message.Stream stream) =
       let brought : Option Brought = Some (record { from = from; message = message.Stream stream }) in
       let move : PartsMove s (Deliver number) brought (held (message_row s from (message.Stream stream)).node) =
@@ -106,20 +107,20 @@ module _ (s : NodeState) (number : ℕ) where
         | inr a ↦ Apply number from stream a.before a.f a.after refl refl a.these a.ours a.next
             (λ i. record (held s) { followings = a.followings i; versions = a.versions_are i; rows = a.rows_are i })
       ] in
-      record { move = move; me_is = refl; setup_is = refl; up_is = refl }
-  message_parts from (message.Got got) = record { move = Keep number from got refl refl refl; me_is = refl; setup_is = refl; up_is = refl }
+      record { move = move; me_is = refl; setup_is = refl; up_is = refl; next_is = refl }
+  message_parts from (message.Got got) = record { move = Keep number from got refl refl refl; me_is = refl; setup_is = refl; up_is = refl; next_is = refl }
 
   brought_parts : (b : Option Brought) → PartsRow s (Deliver number) b (brought_row s b)
-  brought_parts None = record { move = Rest tt refl; me_is = refl; setup_is = refl; up_is = refl }
+  brought_parts None = record { move = Rest tt refl; me_is = refl; setup_is = refl; up_is = refl; next_is = refl }
   brought_parts (Some b) =
       cond_both (is_well_formed s b) (message_row s b.from b.message) (silent s) (PartsRow s (Deliver number) (Some b))
-      (λ _. message_parts b.from b.message) (λ _. record { move = Rest tt refl; me_is = refl; setup_is = refl; up_is = refl })
+      (λ _. message_parts b.from b.message) (λ _. record { move = Rest tt refl; me_is = refl; setup_is = refl; up_is = refl; next_is = refl })
 
 -- ---- every row
 
 ticked_parts : (s : NodeState) (brought : Option Brought) (planned : LogState) (acks : List ContractAcks) → Same s.log planned
     → PartsRow s Tick brought (with_said (tick_log (record s { log = planned; acks = acks })))
-ticked_parts s brought planned acks same = record { move = Rest tt (λ i. record (held s) { acted = same.acted i }); me_is = refl; setup_is = refl; up_is = refl }
+ticked_parts s brought planned acks same = record { move = Rest tt (λ i. record (held s) { acted = same.acted i }); me_is = refl; setup_is = refl; up_is = refl; next_is = refl }
 
 tick_parts : (s : NodeState) (brought : Option Brought) → PartsRow s Tick brought (tick_row s)
 tick_parts s brought =
@@ -131,9 +132,9 @@ tick_parts s brought =
 
 pub row_parts : (s : NodeState) (input : Input) (brought : Option Brought) → PartsRow s input brought (input_row s input brought)
 row_parts s (Request op key what) brought = request_parts s op key what brought
-row_parts s (GiveUp op) brought = record { move = Forget op refl refl; me_is = refl; setup_is = refl; up_is = refl }
-row_parts s (See other up) brought = record { move = Rest tt refl; me_is = refl; setup_is = refl; up_is = refl }
+row_parts s (GiveUp op) brought = record { move = Forget op refl refl; me_is = refl; setup_is = refl; up_is = refl; next_is = refl }
+row_parts s (See other up) brought = record { move = Rest tt refl; me_is = refl; setup_is = refl; up_is = refl; next_is = refl }
 row_parts s Tick brought = tick_parts s brought
 row_parts s (Deliver number) brought = brought_parts s number brought
-row_parts s Crash brought = record { move = Fall refl refl; me_is = refl; setup_is = refl; up_is = refl }
-row_parts s Restart brought = record { move = Rise (table_of s.log).contracts refl refl refl; me_is = refl; setup_is = refl; up_is = refl }
+row_parts s Crash brought = record { move = Fall refl refl; me_is = refl; setup_is = refl; up_is = refl; next_is = refl }
+row_parts s Restart brought = record { move = Rise (table_of s.log).contracts refl refl refl; me_is = refl; setup_is = refl; up_is = refl; next_is = refl }

@@ -13,7 +13,7 @@ use Rattle.node_moves.specs.primary_exec.Execution.{Execution, started}
 use Rattle.node_moves.specs.node_core.declared.node.Brought.{Brought}
 use Rattle.node_moves.specs.node_core.Starting.{Starting, due, place_of, placed, start_each, start_one}
 use Rattle.node_moves.specs.node_core.Step.{NodeState, Stepped, act, act_on, decide_step, input_row, node_step}
-use Rattle.node_moves.specs.Parts.{Held, held, Begins, Begin, Ends, PartsAct, More, Same, StepParts, up_after}
+use Rattle.node_moves.specs.Parts.{Held, held, Begins, Begin, Ends, PartsAct, More, Same, StepParts, next_after, up_after}
 use Rattle.node_moves.proofs.PartRows.{PartsRow, row_parts}
 use Rattle.node_moves.proofs.RowMoves.{row_moves}
 use Rattle.list_laws.proofs.All.{all_push}
@@ -83,6 +83,7 @@ module _ (s : NodeState) (input : Input) (brought : Option Brought) where
     me_is : a.node.me ≡ s.me
     setup_is : a.node.setup ≡ s.setup
     up_is : a.node.up ≡ up_after s.up input
+    next_is : a.node.next ≡ next_after s input
     acts : PartsAct s (decide_step a).node (held row.node) (held a.node)
 
   acted_is : Acted (act row)
@@ -94,11 +95,12 @@ module _ (s : NodeState) (input : Input) (brought : Option Brought) where
       let one : Held = record (held row.node) { acted = log.raft.view } in
       let two : Held = held (act_on row (Some v)).node in
       cond_both (log.acted == log.raft.view) None (Some v) (λ (o : Option Viewed). Acted (act_on row o))
-      (λ _. record { me_is = parts.me_is; setup_is = parts.setup_is; up_is = parts.up_is; acts = Same same_view refl })
+      (λ _. record { me_is = parts.me_is; setup_is = parts.setup_is; up_is = parts.up_is; next_is = parts.next_is; acts = Same same_view refl })
       (λ e. record {
         me_is = parts.me_is;
         setup_is = parts.setup_is;
         up_is = parts.up_is;
+        next_is = parts.next_is;
         acts = More (ap (λ n. n == log.raft.view) (sym same_view) ∙ e)
             (subst (λ me. Begins me t one two) parts.me_is (each_begins row.node.me t one row.node.asking begun))
             (left_not_due row.node.me t row.node.asking begun tt);
@@ -111,6 +113,7 @@ module _ (s : NodeState) (input : Input) (brought : Option Brought) where
         me_is = a.me_is;
         setup_is = a.setup_is;
         up_is = a.up_is;
+        next_is = a.next_is;
         row = held row.node;
         moves = parts.move;
         acted = held (act row).node;

@@ -202,10 +202,10 @@ module _ (s : NodeState) (number : ℕ) (from : NodeId) where
   abbrev arrived : Message → Option Brought
   arrived m = Some (record { from = from; message = m })
 
-  message_moves : (m : Message) → message_fits s from m ≡ true → Row s (Deliver number) (arrived m) (message_row s from m)
-  message_moves (message.Raft m) fitting =
+  message_moves : (m : Message) → nat_lt from.0 s.setup.nodes ≡ true → message_fits s from m ≡ true → Row s (Deliver number) (arrived m) (message_row s from m)
+  message_moves (message.Raft m) within fitting =
       let step : LogStepped = log_step s.log (raft.Deliver from m) in
-      let moves : LogMoves s (Deliver number) (arrived (message.Raft m)) step.log step.sent = Takes from m refl fitting refl refl in
+      let moves : LogMoves s (Deliver number) (arrived (message.Raft m)) step.log step.sent = Takes from m refl within fitting refl refl in
       record {
         config = refl;
         acted = refl;
@@ -215,12 +215,12 @@ module _ (s : NodeState) (number : ℕ) (from : NodeId) where
         says = (spoken_raft step.sent);
         awaits = all_pending s (Deliver number);
       }
-  message_moves (message.Say contract ack) fitting =
+  message_moves (message.Say contract ack) within fitting =
       let brought : Option Brought = arrived (message.Say contract ack) in
       cond_both (leads s.log) (record s { acks = with_ack contract from ack s.acks }) s (λ (t : NodeState). Row s (Deliver number) brought (silent t))
-      (λ is. still s (Deliver number) brought refl (record s { acks = with_ack contract from ack s.acks }) refl (Put from contract ack refl is refl) (all_pending s (Deliver number)))
+      (λ is. still s (Deliver number) brought refl (record s { acks = with_ack contract from ack s.acks }) refl (Put from contract ack refl within fitting is refl) (all_pending s (Deliver number)))
       (λ _. still s (Deliver number) brought refl s refl (Kept refl) (all_pending s (Deliver number)))
-  message_moves (message.Stream stream) fitting =
+  message_moves (message.Stream stream) within fitting =
       let r : Streamed = stream_all s.followings s.rows s.versions from stream s.log.acted in
       let P : NodeId → Message → Type 0 = FromPart s (Deliver number) from stream s.log r.followings in
       let only : AllOnly P r.outs = part_tells s (Deliver number) from stream s.log s.followings s.rows s.versions in
@@ -234,14 +234,14 @@ module _ (s : NodeState) (number : ℕ) (from : NodeId) where
         says = (only_spoken P r.outs only);
         awaits = all_pending s (Deliver number);
       }
-  message_moves (message.Got got) fitting =
+  message_moves (message.Got got) within fitting =
       still s (Deliver number) (arrived (message.Got got)) refl (message_row s from (message.Got got)).node refl (Kept refl) (got_awaits s (Deliver number) from got s.executions (all_pending s (Deliver number)))
 
 brought_moves : (s : NodeState) (number : ℕ) (b : Option Brought) → Row s (Deliver number) b (brought_row s b)
 brought_moves s number None = still s (Deliver number) None refl s refl (Kept refl) (all_pending s (Deliver number))
 brought_moves s number (Some b) =
     cond_both (is_well_formed s b) (message_row s b.from b.message) (silent s) (Row s (Deliver number) (Some b))
-    (λ e. message_moves s number b.from b.message (and_parts (nat_lt b.from.0 s.setup.nodes) (message_fits s b.from b.message) e).1)
+    (λ e. let tests = and_parts (nat_lt b.from.0 s.setup.nodes) (message_fits s b.from b.message) e in message_moves s number b.from b.message tests.0 tests.1)
     (λ _. still s (Deliver number) (Some b) refl s refl (Kept refl) (all_pending s (Deliver number)))
 
 -- ---- every row

@@ -25,7 +25,7 @@ use Rattle.primary_exec.specs.Execution.{Execution, dispatch_row, started, start
 use Rattle.node_core.specs.declared.node.Brought.{Brought}
 use Rattle.node_core.specs.Parts.{decide_all, give_up_all, got_all}
 use Rattle.node_core.specs.Starting.{due}
-use Rattle.node_core.specs.Step.{NodeState, askings_from, serves, waitings_from}
+use Rattle.node_core.specs.Step.{NodeState, askings_from, roles_count, serves, waitings_from}
 use Rattle.node_moves.specs.Says.{IsServing}
 
 pub record Held : Type 0 where
@@ -123,11 +123,22 @@ up_after up (Deliver number) = up
 up_after up Crash = false
 up_after up Restart = true
 
+-- the counter of the next id after an input: a node that comes up draws one for each part
+abbrev pub next_after : NodeState → Input → ℕ
+next_after s (Request op key what) = s.next
+next_after s (GiveUp op) = s.next
+next_after s (See other sees) = s.next
+next_after s Tick = s.next
+next_after s (Deliver number) = s.next
+next_after s Crash = 0
+next_after s Restart = roles_count s.me (s.life + 1) (table_of s.log).contracts
+
 -- the whole step: these are the executions before each answers what is decided there
 pub record StepParts (s : NodeState) (input : Input) (brought : Option Brought) (t : NodeState) (xs : List Execution) : Type 0 where
   pub me_is : t.me ≡ s.me
   pub setup_is : t.setup ≡ s.setup
   pub up_is : t.up ≡ up_after s.up input
+  pub next_is : t.next ≡ next_after s input
   pub row : Held  -- as the row of the input leaves them
   pub moves : PartsMove s input brought row
   pub acted : Held  -- once the node acted on what was committed

@@ -1,5 +1,5 @@
 -- What a step of a node sends: its messages, each with where it comes from.
-use Rattle.std.specs.Prelude.{◌≡◌, ◌==◌, ◌+◌, ℕ, true, false, List, [], ◌∷◌, Option, Some, None}
+use Rattle.std.specs.Prelude.{◌≡◌, ◌==◌, ◌+◌, ℕ, true, false, List, [], ◌∷◌, Option, Some, None, nat_lt}
 use Rattle.list_laws.specs.Members.{IsIn}
 use Rattle.region_map.specs.declared.id.Id.{Id}
 use Rattle.region_map.specs.declared.id.NodeId.{NodeId}
@@ -38,7 +38,7 @@ use Rattle.primary_exec.specs.Execution.{Execution, has_room, needs_branch, part
 use Rattle.node_core.specs.declared.node.Brought.{Brought}
 use Rattle.node_core.specs.Saying.{is_asking_under, is_run_under, is_waiting_under, is_following_under}
 use Rattle.node_core.specs.Starting.{current_of}
-use Rattle.node_core.specs.Step.{NodeState, coordinates, leads, propose_all}
+use Rattle.node_core.specs.Step.{NodeState, ack_fits, coordinates, leads, propose_all}
 use Rattle.node_moves.specs.Says.{IsServing}
 
 -- ---- the log
@@ -54,7 +54,8 @@ pub data LogMoves (s : NodeState) (input : Input) (brought : Option Brought) (lo
   -- what is planned is proposed, and then the log ticks
   Ticks : (planned : LogState) → input ≡ Tick → Proposes s planned → log ≡ (log_step planned (raft.Tick s.unseen)).log → sent ≡ (log_step planned (raft.Tick s.unseen)).sent
       → LogMoves s input brought log sent
-  Takes : (from : NodeId) (m : RaftMessage Change) → brought ≡ Some (record { from = from; message = message.Raft m }) → may_take s.log (raft.Deliver from m) ≡ true
+  Takes : (from : NodeId) (m : RaftMessage Change) → brought ≡ Some (record { from = from; message = message.Raft m }) → nat_lt from.0 s.setup.nodes ≡ true
+      → may_take s.log (raft.Deliver from m) ≡ true
       → log ≡ (log_step s.log (raft.Deliver from m)).log → sent ≡ (log_step s.log (raft.Deliver from m)).sent → LogMoves s input brought log sent
   GoesDown : input ≡ Crash → log ≡ restarted s.log → sent ≡ [] → LogMoves s input brought log sent
   ComesUp : input ≡ Restart → log ≡ restarted s.log → sent ≡ [] → LogMoves s input brought log sent
@@ -65,8 +66,8 @@ pub data AcksMove (s : NodeState) (input : Input) (brought : Option Brought) (ac
   -- it does not lead, before or after
   Lost : acks ≡ [] → AcksMove s input brought acks
   -- a server said how far it is under a contract
-  Put : (from : NodeId) (contract : Id) (ack : Ack) → brought ≡ Some (record { from = from; message = message.Say contract ack }) → leads s.log ≡ true
-      → acks ≡ with_ack contract from ack s.acks → AcksMove s input brought acks
+  Put : (from : NodeId) (contract : Id) (ack : Ack) → brought ≡ Some (record { from = from; message = message.Say contract ack }) → nat_lt from.0 s.setup.nodes ≡ true
+      → ack_fits s.setup.hashes ack ≡ true → leads s.log ≡ true → acks ≡ with_ack contract from ack s.acks → AcksMove s input brought acks
   -- those on which what is planned rests are forgotten
   Used : input ≡ Tick → coordinates s.log ≡ true → acks ≡ after_proposals s.acks (table_of s.log) → AcksMove s input brought acks
 
