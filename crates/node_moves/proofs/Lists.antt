@@ -1,6 +1,7 @@
 -- Lists of outputs: the spoken ones, and the messages of the log.
-use Rattle.std.proofs.Common.{◌≡◌, List, [], ◌∷◌, ◌++◌, refl, ap}
+use Rattle.std.proofs.Common.{◌≡◌, List, [], ◌∷◌, ◌++◌, map, inl, inr, refl, ap}
 use Rattle.std.specs.List.{AllByRecursion, flat_map}
+use Rattle.node_moves.specs.list_laws.Members.{IsIn}
 use Rattle.node_moves.specs.region_map.declared.id.NodeId.{NodeId}
 use Rattle.node_moves.specs.raft_vote.declared.message.RaftMessage.{RaftMessage}
 use Rattle.node_moves.specs.contract_types.declared.change.Change.{Change}
@@ -10,8 +11,12 @@ use Rattle.node_moves.specs.exec_types.declared.output.Output.{Output}
 use Rattle.node_moves.specs.exec_types.declared.output.Output.TheVariants as output
 use Rattle.node_moves.specs.node_core.Step.{raft_outs}
 use Rattle.node_moves.specs.Says.{spoken}
-use Rattle.node_moves.specs.Sends.{logged, logged_as}
+use Rattle.node_moves.specs.Sends.{logged}
 use Rattle.list_laws.proofs.All.{all_append}
+
+pub IsIn-mapped : {X Y : Type 0} (f : X → Y) (xs : List X) (x : X) → IsIn xs x → IsIn (map f xs) (f x)
+IsIn-mapped f [] x i = absurd i
+IsIn-mapped f (y ∷ xs) x i = elim i [ inl e ↦ inl (ap f e) | inr j ↦ inr (IsIn-mapped f xs x j) ]
 
 pub spoken-append : (a b : List Output) → spoken (a ++ b) ≡ spoken a ++ spoken b
 spoken-append [] b = refl
@@ -19,12 +24,6 @@ spoken-append (output.Message to m ∷ a) b = spoken-append a b
 spoken-append (output.Dispatched op key branch at ∷ a) b = ap (λ (l : List Output). output.Dispatched op key branch at ∷ l) (spoken-append a b)
 spoken-append (output.Viewed first results ∷ a) b = ap (λ (l : List Output). output.Viewed first results ∷ l) (spoken-append a b)
 spoken-append (output.Answer op outcome ∷ a) b = ap (λ (l : List Output). output.Answer op outcome ∷ l) (spoken-append a b)
-
-logged_as-append : (to : NodeId) (m : Message) (xs ys : List (NodeId × RaftMessage Change)) → logged_as to m (xs ++ ys) ≡ logged_as to m xs ++ ys
-logged_as-append to (message.Raft m) xs ys = refl
-logged_as-append to (message.Say contract ack) xs ys = refl
-logged_as-append to (message.Stream stream) xs ys = refl
-logged_as-append to (message.Got got) xs ys = refl
 
 pub logged-append : (a b : List Output) → logged (a ++ b) ≡ logged a ++ logged b
 logged-append [] b = refl

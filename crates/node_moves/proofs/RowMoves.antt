@@ -30,8 +30,8 @@ use Rattle.node_moves.specs.node_core.Parts.{Requested, Streamed, give_up_all_ou
 use Rattle.node_moves.specs.node_core.Saying.{says_all}
 use Rattle.node_moves.specs.node_core.Starting.{current_of}
 use Rattle.node_moves.specs.node_core.Step.{NodeState, Stepped, brought_row, coordinates, input_row, is_well_formed, leads, message_fits, message_row, propose_all, propose_one, raft_outs, silent, tick_log, tick_row, with_requested, with_said}
-use Rattle.node_moves.specs.Says.{IsServing, RowSays, Dispatches, GivesUp, Quiet, Refuses, is_quiet, spoken}
-use Rattle.node_moves.specs.Sends.{LogMoves, ComesUp, GoesDown, Rests, Takes, Ticks, Proposes, Leaves, Plans, SendsBeside, SendsFrom, logged}
+use Rattle.node_moves.specs.Says.{IsServing, RowSays, Dispatches, Refuses, spoken}
+use Rattle.node_moves.specs.Sends.{AcksMove, Kept, Lost, Put, Used, LogMoves, ComesUp, GoesDown, Rests, Takes, Ticks, Proposes, Leaves, Plans, SendsBeside, SendsFrom, logged}
 use Rattle.node_moves.proofs.Answering.{spoken_give_up}
 use Rattle.node_moves.proofs.Executions.{AllAwait, all_pending, give_up_awaits, got_awaits, request_awaits, request_cases}
 use Rattle.node_moves.proofs.Lists.{AllMessages, AllOnly, Messages, logged-append, logged-raft, logged_none, messages_none, only_logged, only_messages, only_spoken, spoken-append, spoken_all}
@@ -44,6 +44,7 @@ pub record Row (s : NodeState) (input : Input) (brought : Option Brought) (r : S
   pub config : r.node.log.config ≡ s.log.config
   pub acted : r.node.log.acted ≡ s.log.acted
   pub moves : LogMoves s input brought r.node.log (logged r.outs)
+  pub acks : AcksMove s input brought r.node.acks
   pub sends : AllMessages (SendsFrom s input brought r.node.log r.node.followings) r.outs
   pub says : RowSays s input (spoken r.outs)
   pub awaits : AllByRecursion (AllAwait s input) r.node.executions
@@ -78,15 +79,16 @@ logged_sends part (s ∷ ss) = logged_sends part ss
 -- ---- rows that leave the log
 
 -- a node that keeps its log and its followings, and says nothing
-module _ (s : NodeState) (input : Input) (brought : Option Brought) (quiet : is_quiet input ≡ true) where
-  still : (t : NodeState) → t.log ≡ s.log → AllByRecursion (AllAwait s input) t.executions → Row s input brought (silent t)
-  still t same awaits =
+module _ (s : NodeState) (input : Input) (brought : Option Brought) (says : RowSays s input []) where
+  still : (t : NodeState) → t.log ≡ s.log → AcksMove s input brought t.acks → AllByRecursion (AllAwait s input) t.executions → Row s input brought (silent t)
+  still t same acks awaits =
       record {
         config = ap (λ (l : LogState). l.config) same;
         acted = ap (λ (l : LogState). l.acted) same;
         moves = Rests same refl;
+        acks = acks;
         sends = tt;
-        says = Quiet quiet refl;
+        says = says;
         awaits = awaits;
       }
 
@@ -109,7 +111,7 @@ request_moves s op key what brought =
     let all : P (request_all s.setup.hashes s.executions s.rows s.versions op key what) = elim (request_cases s.setup.hashes s.executions s.rows s.versions op key what) [
       | inl r ↦
           subst P (sym r.result)
-          (λ awaits. record { config = refl; acted = refl; moves = Rests refl refl; sends = (tt, tt); says = Refuses op key what refl r.none refl; awaits = awaits })
+          (λ awaits. record { config = refl; acted = refl; moves = Rests refl refl; acks = Kept refl; sends = (tt, tt); says = Refuses r.none refl; awaits = awaits })
       | inr d ↦
           let part : Part = part_of (value_of s.rows key) (d.x.last + 1) key what in
           let ss : List Session = filter has_room d.x.sessions in
@@ -119,8 +121,9 @@ request_moves s op key what brought =
             config = refl;
             acted = refl;
             moves = Rests refl (logged-append (map (sends part) ss) last ∙ ap (λ (l : List (NodeId × RaftMessage Change)). l ++ []) (logged_sends part ss));
+            acks = Kept refl;
             sends = all_append (Messages (SendsFrom s input brought s.log s.followings)) (map (sends part) ss) last (session_sends s op key what brought d.x d.serving ss (λ y i. i)) (tt, tt);
-            says = Dispatches op key what d.x refl d.serving (spoken-append (map (sends part) ss) last ∙ ap (λ (l : List Output). l ++ last) (spoken_sends part ss));
+            says = Dispatches d.x d.serving (spoken-append (map (sends part) ss) last ∙ ap (λ (l : List Output). l ++ last) (spoken_sends part ss));
             awaits = awaits;
           })
     ] in
@@ -134,8 +137,9 @@ give_up_moves s op brought =
       config = refl;
       acted = refl;
       moves = Rests refl (logged_none outs alone);
+      acks = Kept refl;
       sends = messages_none (SendsFrom s (GiveUp op) brought s.log s.followings) outs alone;
-      says = GivesUp op refl (spoken_all outs alone);
+      says = spoken_all outs alone;
       awaits = give_up_awaits s (GiveUp op) op s.executions (all_pending s (GiveUp op));
     }
 
@@ -158,9 +162,9 @@ proposes_all log (c ∷ cs) =
     let rest = proposes_all (propose_one log c) cs in
     record { config = rest.config ∙ one.config; acted = rest.acted ∙ one.acted }
 
-ticked : (s : NodeState) (brought : Option Brought) (planned : LogState) (acks : List ContractAcks) → Proposes s planned → Same s.log planned
+ticked : (s : NodeState) (brought : Option Brought) (planned : LogState) (acks : List ContractAcks) → Proposes s planned → Same s.log planned → AcksMove s Tick brought acks
     → Row s Tick brought (with_said (tick_log (record s { log = planned; acks = acks })))
-ticked s brought planned acks plans same =
+ticked s brought planned acks plans same left =
     let step : LogStepped = log_step planned (raft.Tick s.unseen) in
     let log : LogState = step.log in
     let said : ℕ → List Output = λ view. says_all s.me log.raft.votes.leader (current_of (table_of log)) s.versions view (roles s) (table_of log).contracts in
@@ -174,10 +178,11 @@ ticked s brought planned acks plans same =
       config = same.config;
       acted = same.acted;
       moves = subst (LogMoves s Tick brought log) (sym sent) moves;
+      acks = cond_both (leads planned && leads log) acks [] (AcksMove s Tick brought) (λ _. left) (λ _. Lost refl);
       sends =
           all_append (Messages (SendsFrom s Tick brought log s.followings)) (raft_outs step.sent) (said planned.acted) (raft_sends s Tick brought log s.followings step.sent moves step.sent (λ x i. i))
           (only_messages (FromTick s brought log) (SendsFrom s Tick brought log s.followings) (beside_more s Tick brought log s.followings) (said planned.acted) only);
-      says = Quiet refl
+      says =
           (spoken-append (raft_outs step.sent) (said planned.acted) ∙ ap (λ (l : List Output). l ++ spoken (said planned.acted)) (spoken_raft step.sent)
           ∙ only_spoken (FromTick s brought log) (said planned.acted) only);
       awaits = all_pending s Tick;
@@ -188,8 +193,8 @@ tick_moves s brought =
     let changes : List Change = proposals_of s.acks (table_of s.log) in
     cond_both (coordinates s.log) (record s { log = propose_all s.log changes; acks = after_proposals s.acks (table_of s.log) }) s
     (λ (p : NodeState). Row s Tick brought (with_said (tick_log p)))
-    (λ is. ticked s brought (propose_all s.log changes) (after_proposals s.acks (table_of s.log)) (Plans is refl) (proposes_all s.log changes))
-    (λ is. ticked s brought s.log s.acks (Leaves is refl) (record { config = refl; acted = refl }))
+    (λ is. ticked s brought (propose_all s.log changes) (after_proposals s.acks (table_of s.log)) (Plans is refl) (proposes_all s.log changes) (Used refl is refl))
+    (λ is. ticked s brought s.log s.acks (Leaves is refl) (record { config = refl; acted = refl }) (Kept refl))
 
 -- ---- messages
 
@@ -197,24 +202,25 @@ module _ (s : NodeState) (number : ℕ) (from : NodeId) where
   abbrev arrived : Message → Option Brought
   arrived m = Some (record { from = from; message = m })
 
-  message_moves : (m : Message) → message_fits s from m ≡ true → Row s (Deliver number) (arrived m) (message_row s from m)
-  message_moves (message.Raft m) fitting =
+  message_moves : (m : Message) → nat_lt from.0 s.setup.nodes ≡ true → message_fits s from m ≡ true → Row s (Deliver number) (arrived m) (message_row s from m)
+  message_moves (message.Raft m) within fitting =
       let step : LogStepped = log_step s.log (raft.Deliver from m) in
-      let moves : LogMoves s (Deliver number) (arrived (message.Raft m)) step.log step.sent = Takes from m refl fitting refl refl in
+      let moves : LogMoves s (Deliver number) (arrived (message.Raft m)) step.log step.sent = Takes from m refl within fitting refl refl in
       record {
         config = refl;
         acted = refl;
         moves = subst (LogMoves s (Deliver number) (arrived (message.Raft m)) step.log) (sym (logged-raft step.sent)) moves;
+        acks = cond_both (leads s.log && leads step.log) s.acks [] (AcksMove s (Deliver number) (arrived (message.Raft m))) (λ _. Kept refl) (λ _. Lost refl);
         sends = raft_sends s (Deliver number) (arrived (message.Raft m)) step.log s.followings step.sent moves step.sent (λ x i. i);
-        says = Quiet refl (spoken_raft step.sent);
+        says = (spoken_raft step.sent);
         awaits = all_pending s (Deliver number);
       }
-  message_moves (message.Say contract ack) fitting =
+  message_moves (message.Say contract ack) within fitting =
       let brought : Option Brought = arrived (message.Say contract ack) in
       cond_both (leads s.log) (record s { acks = with_ack contract from ack s.acks }) s (λ (t : NodeState). Row s (Deliver number) brought (silent t))
-      (λ _. still s (Deliver number) brought refl (record s { acks = with_ack contract from ack s.acks }) refl (all_pending s (Deliver number)))
-      (λ _. still s (Deliver number) brought refl s refl (all_pending s (Deliver number)))
-  message_moves (message.Stream stream) fitting =
+      (λ is. still s (Deliver number) brought refl (record s { acks = with_ack contract from ack s.acks }) refl (Put from contract ack refl within fitting is refl) (all_pending s (Deliver number)))
+      (λ _. still s (Deliver number) brought refl s refl (Kept refl) (all_pending s (Deliver number)))
+  message_moves (message.Stream stream) within fitting =
       let r : Streamed = stream_all s.followings s.rows s.versions from stream s.log.acted in
       let P : NodeId → Message → Type 0 = FromPart s (Deliver number) from stream s.log r.followings in
       let only : AllOnly P r.outs = part_tells s (Deliver number) from stream s.log s.followings s.rows s.versions in
@@ -222,28 +228,29 @@ module _ (s : NodeState) (number : ℕ) (from : NodeId) where
         config = refl;
         acted = refl;
         moves = Rests refl (only_logged P (λ to m h. h) r.outs only);
+        acks = Kept refl;
         sends = only_messages P (SendsFrom s (Deliver number) (arrived (message.Stream stream)) s.log r.followings)
             (beside_more s (Deliver number) (arrived (message.Stream stream)) s.log r.followings) r.outs only;
-        says = Quiet refl (only_spoken P r.outs only);
+        says = (only_spoken P r.outs only);
         awaits = all_pending s (Deliver number);
       }
-  message_moves (message.Got got) fitting =
-      still s (Deliver number) (arrived (message.Got got)) refl (message_row s from (message.Got got)).node refl (got_awaits s (Deliver number) from got s.executions (all_pending s (Deliver number)))
+  message_moves (message.Got got) within fitting =
+      still s (Deliver number) (arrived (message.Got got)) refl (message_row s from (message.Got got)).node refl (Kept refl) (got_awaits s (Deliver number) from got s.executions (all_pending s (Deliver number)))
 
 brought_moves : (s : NodeState) (number : ℕ) (b : Option Brought) → Row s (Deliver number) b (brought_row s b)
-brought_moves s number None = still s (Deliver number) None refl s refl (all_pending s (Deliver number))
+brought_moves s number None = still s (Deliver number) None refl s refl (Kept refl) (all_pending s (Deliver number))
 brought_moves s number (Some b) =
     cond_both (is_well_formed s b) (message_row s b.from b.message) (silent s) (Row s (Deliver number) (Some b))
-    (λ e. message_moves s number b.from b.message (and_parts (nat_lt b.from.0 s.setup.nodes) (message_fits s b.from b.message) e).1)
-    (λ _. still s (Deliver number) (Some b) refl s refl (all_pending s (Deliver number)))
+    (λ e. let tests = and_parts (nat_lt b.from.0 s.setup.nodes) (message_fits s b.from b.message) e in message_moves s number b.from b.message tests.0 tests.1)
+    (λ _. still s (Deliver number) (Some b) refl s refl (Kept refl) (all_pending s (Deliver number)))
 
 -- ---- every row
 
 pub row_moves : (s : NodeState) (input : Input) (brought : Option Brought) → Row s input brought (input_row s input brought)
 row_moves s (Request op key what) brought = request_moves s op key what brought
 row_moves s (GiveUp op) brought = give_up_moves s op brought
-row_moves s (See other up) brought = still s (See other up) brought refl (input_row s (See other up) brought).node refl (all_pending s (See other up))
+row_moves s (See other up) brought = still s (See other up) brought refl (input_row s (See other up) brought).node refl (Kept refl) (all_pending s (See other up))
 row_moves s Tick brought = tick_moves s brought
 row_moves s (Deliver number) brought = brought_moves s number brought
-row_moves s Crash brought = record { config = refl; acted = refl; moves = GoesDown refl refl refl; sends = tt; says = Quiet refl refl; awaits = tt }
-row_moves s Restart brought = record { config = refl; acted = refl; moves = ComesUp refl refl refl; sends = tt; says = Quiet refl refl; awaits = tt }
+row_moves s Crash brought = record { config = refl; acted = refl; moves = GoesDown refl refl refl; acks = Lost refl; sends = tt; says = refl; awaits = tt }
+row_moves s Restart brought = record { config = refl; acted = refl; moves = ComesUp refl refl refl; acks = Lost refl; sends = tt; says = refl; awaits = tt }

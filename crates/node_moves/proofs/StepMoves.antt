@@ -1,5 +1,5 @@
 -- What a whole step sends and says.
-use Rattle.std.proofs.Common.{◌≡◌, ◌∙◌, ◌+◌, ◌-◌, ◌==◌, List, [], ◌∷◌, ◌++◌, map, Option, Some, None, inl, inr, refl, sym, ap, subst, append-nil}
+use Rattle.std.proofs.Common.{◌≡◌, ℕ, ◌∙◌, ◌+◌, ◌-◌, ◌==◌, List, [], ◌∷◌, ◌++◌, Option, Some, None, inl, inr, refl, sym, ap, subst, append-nil}
 use Rattle.std.proofs.lemmas.Bool.{cond_both, eqb-true}
 use Rattle.std.specs.List.{AllByRecursion}
 use Rattle.node_moves.specs.list_laws.Members.{IsIn}
@@ -9,7 +9,10 @@ use Rattle.node_moves.specs.contract_types.declared.results.Viewed.{Viewed}
 use Rattle.node_moves.specs.raft_vote.declared.message.RaftMessage.{RaftMessage}
 use Rattle.node_moves.specs.table_log.Fitting.{changes_of}
 use Rattle.node_moves.specs.table_log.Logs.{LogState, caught_up, results, results_from, table_of}
+use Rattle.node_moves.specs.register_laws.declared.operation.OpId.{OpId}
+use Rattle.node_moves.specs.register_laws.declared.operation.Op.{Op}
 use Rattle.node_moves.specs.exec_types.declared.input.Input.{Input}
+use Rattle.node_moves.specs.exec_types.declared.input.Input.TheVariants.{Request, GiveUp, See, Tick, Deliver, Crash, Restart}
 use Rattle.node_moves.specs.exec_types.declared.message.Message.{Message}
 use Rattle.node_moves.specs.exec_types.declared.outcome.Outcome.TheVariants.{NotServing}
 use Rattle.node_moves.specs.exec_types.declared.output.Output.{Output}
@@ -19,18 +22,14 @@ use Rattle.node_moves.specs.primary_exec.Execution.{Execution, decided}
 use Rattle.node_moves.specs.node_core.declared.node.Brought.{Brought}
 use Rattle.node_moves.specs.node_core.Parts.{decide_all_outs}
 use Rattle.node_moves.specs.node_core.Step.{NodeState, Stepped, act, act_on, input_row, node_step}
-use Rattle.node_moves.specs.Says.{RowSays, Dispatches, GivesUp, Quiet, Refuses, Says, ByClient, StepSays, ViewSays, Rises, Stays, spoken}
-use Rattle.node_moves.specs.Sends.{LogMoves, Sends, SendsFrom, StepLogs, logged, unacted}
+use Rattle.node_moves.specs.Says.{RequestSays, RowSays, Dispatches, Refuses, Says, ByClient, StepSays, ViewSays, Rises, Stays, spoken}
+use Rattle.node_moves.specs.Sends.{AcksMove, LogMoves, Sends, SendsFrom, StepLogs, logged, unacted}
 use Rattle.node_moves.proofs.Answering.{decided_by, given_by, spoken_all_decided}
 use Rattle.node_moves.proofs.Executions.{AllAwait, awaits_at, starts_await}
-use Rattle.node_moves.proofs.Lists.{AllMessages, AllSpoken, IsSpoken, Messages, logged-append, logged_none, messages_none, spoken-append, spoken_all}
+use Rattle.node_moves.proofs.Lists.{AllMessages, IsIn-mapped, AllSpoken, IsSpoken, Messages, logged-append, logged_none, messages_none, spoken-append, spoken_all}
 use Rattle.node_moves.proofs.RowMoves.{Row, row_moves}
 use Rattle.list_laws.proofs.All.{all_append}
 use Rattle.list_laws.proofs.Members.{IsIn-append, all_member}
-
-IsIn-mapped : {X Y : Type 0} (f : X → Y) (xs : List X) (x : X) → IsIn xs x → IsIn (map f xs) (f x)
-IsIn-mapped f [] x i = absurd i
-IsIn-mapped f (y ∷ xs) x i = elim i [ inl e ↦ inl (ap f e) | inr j ↦ inr (IsIn-mapped f xs x j) ]
 
 -- ---- acting on what was committed
 
@@ -78,6 +77,12 @@ acts_on s input brought r h =
       awaits = starts_await s input r.node.me (table_of (caught_up log)) r.node.asking (record { asking = []; executions = r.node.executions; versions = r.node.versions }) h.awaits;
     })
 
+acts_acks : (r : Stepped) → (act r).node.acks ≡ r.node.acks
+acts_acks r =
+    let log : LogState = r.node.log in
+    let v : Viewed = record { first = log.acted + 1; results = results log } in
+    cond_both (log.acted == log.raft.view) None (Some v) (λ (o : Option Viewed). (act_on r o).node.acks ≡ r.node.acks) (λ _. refl) (λ _. refl)
+
 -- ---- the whole step
 
 module _ (s : NodeState) (input : Input) (brought : Option Brought) where
@@ -103,7 +108,7 @@ module _ (s : NodeState) (input : Input) (brought : Option Brought) where
   view_ended view (Stays e f) = Stays e f
   view_ended view (Rises first results e f) = Rises first results (record { rose = e.rose; first_is = e.first_is; results_are = e.results_are }) f
 
-  pub step_says : StepSays s input end outs
+  pub step_says : StepSays s input end outs (act row).node.executions
   step_says =
       let a = acted in
       let xs : List Execution = (act row).node.executions in
@@ -112,7 +117,6 @@ module _ (s : NodeState) (input : Input) (brought : Option Brought) where
         row_says = done.says;
         view = a.view;
         view_says = view_ended a.view a.view_says;
-        xs = xs;
         after = refl;
         awaits = λ x i. awaits_at s input x (all_member (AllAwait s input) xs a.awaits x i);
         whole =
@@ -132,6 +136,7 @@ module _ (s : NodeState) (input : Input) (brought : Option Brought) where
       record {
         moves = subst (λ log. LogMoves s input brought log (logged outs)) (sym a.log_is) (subst (LogMoves s input brought row.node.log) (sym same) done.moves);
         acts = a.acts;
+        acks = subst (AcksMove s input brought) (sym (acts_acks row)) done.acks;
       }
 
   step_sends : AllMessages (Sends s input brought end) outs
@@ -157,28 +162,39 @@ spoken_in (output.Dispatched op key branch at ∷ outs) o h i = elim i [ inl e �
 spoken_in (output.Viewed first results ∷ outs) o h i = elim i [ inl e ↦ inl e | inr j ↦ inr (spoken_in outs o h j) ]
 spoken_in (output.Answer op outcome ∷ outs) o h i = elim i [ inl e ↦ inl e | inr j ↦ inr (spoken_in outs o h j) ]
 
+-- the row of each input
+module _ (s t : NodeState) (o : Output) where
+  alone : (input : Input) (x : Output) (first : List Output) → first ≡ x ∷ [] → IsIn first o → Says s input t x → Says s input t o
+  alone input x first is i h = elim (subst (λ (l : List Output). IsIn l o) is i) [ inl e ↦ subst (Says s input t) e h | inr none ↦ absurd none ]
+
+  never : (first : List Output) → first ≡ [] → IsIn first o → ⊥
+  never first is i = subst (λ (l : List Output). IsIn l o) is i
+
+  of_request : (op : OpId) (key : List ℕ) (what : Op) (first : List Output) → RequestSays s op key first → IsIn first o → Says s (Request op key what) t o
+  of_request op key what first (Dispatches x serving is) i =
+      alone (Request op key what) (output.Dispatched op key x.branch (x.last + 1)) first is i (record { what = what; asked = refl; x = x; serving = serving; branch_is = refl; next = refl })
+  of_request op key what first (Refuses none is) i =
+      alone (Request op key what) (output.Answer op NotServing) first is i (record { key = key; what = what; asked = refl; none = none })
+
+  of_row : (input : Input) (first : List Output) → RowSays s input first → IsIn first o → Says s input t o
+  of_row (Request op key what) first h i = of_request op key what first h i
+  of_row (GiveUp op) first h i =
+      let g = given_by s.executions op o (subst (λ (l : List Output). IsIn l o) h i) in
+      subst (Says s (GiveUp op) t) g.2.out_is (ByClient g.0 g.2.d refl g.1 g.2.pending refl g.2.short)
+  of_row (See other up) first h i = absurd (never first h i)
+  of_row Tick first h i = absurd (never first h i)
+  of_row (Deliver number) first h i = absurd (never first h i)
+  of_row Crash first h i = absurd (never first h i)
+  of_row Restart first h i = absurd (never first h i)
+
 module _ (s : NodeState) (input : Input) (t : NodeState) where
-  one : (x o : Output) → IsIn (x ∷ []) o → Says s input t x → Says s input t o
-  one x o i h = elim i [ inl e ↦ subst (Says s input t) e h | inr none ↦ absurd none ]
-
-  of_row : (first : List Output) (o : Output) → RowSays s input first → IsIn first o → Says s input t o
-  of_row first o (Dispatches op key what x asked serving is) i =
-      one (output.Dispatched op key x.branch (x.last + 1)) o (subst (λ (l : List Output). IsIn l o) is i)
-      (record { what = what; asked = asked; x = x; serving = serving; branch_is = refl; next = refl })
-  of_row first o (Refuses op key what asked none is) i =
-      one (output.Answer op NotServing) o (subst (λ (l : List Output). IsIn l o) is i) (record { key = key; what = what; asked = asked; none = none })
-  of_row first o (GivesUp op asked is) i =
-      let g = given_by s.executions op o (subst (λ (l : List Output). IsIn l o) is i) in
-      subst (Says s input t) g.2.out_is (ByClient g.0 g.2.d asked g.1 g.2.pending refl g.2.short)
-  of_row first o (Quiet quiet is) i = absurd (subst (λ (l : List Output). IsIn l o) is i)
-
   of_view : (view : List Output) (o : Output) → ViewSays s t view → IsIn view o → Says s input t o
   of_view view o (Stays same is) i = absurd (subst (λ (l : List Output). IsIn l o) is i)
-  of_view view o (Rises first results says is) i = one (output.Viewed first results) o (subst (λ (l : List Output). IsIn l o) is i) says
+  of_view view o (Rises first results says is) i = alone s t o input (output.Viewed first results) view is i says
 
-  of_decided : (all : List Output) (h : StepSays s input t all) (o : Output) → IsIn (decide_all_outs h.xs) o → Says s input t o
-  of_decided all h o i =
-      let d = decided_by h.xs o i in
+  of_decided : (all : List Output) (xs : List Execution) (h : StepSays s input t all xs) (o : Output) → IsIn (decide_all_outs xs) o → Says s input t o
+  of_decided all xs h o i =
+      let d = decided_by xs o i in
       let at = d.2 in
       let known : IsIn d.0.dispatch.waiting (record { op = Some at.op; at = at.d.at; reply = at.d.reply }) =
       subst (IsIn d.0.dispatch.waiting) (λ k. record { op = at.op_is k; at = at.d.at; reply = at.d.reply }) at.is_in in
@@ -186,23 +202,23 @@ module _ (s : NodeState) (input : Input) (t : NodeState) where
       (record {
         awaits = h.awaits d.0 d.1 at.op at.d.at at.d.reply known;
         x = decided d.0;
-        is_in = subst (λ (l : List Execution). IsIn l (decided d.0)) (sym h.after) (IsIn-mapped decided h.xs d.0 d.1);
+        is_in = subst (λ (l : List Execution). IsIn l (decided d.0)) (sym h.after) (IsIn-mapped decided xs d.0 d.1);
         branch_is = refl;
         counted = at.counted;
       })
 
-  spoken_says : (all : List Output) → StepSays s input t all → (o : Output) → IsSpoken o → IsIn all o → Says s input t o
-  spoken_says all h o is i =
-      elim (IsIn-append (h.row ++ h.view) (decide_all_outs h.xs) o (subst (λ (l : List Output). IsIn l o) h.whole (spoken_in all o is i))) [
-        | inr last ↦ of_decided all h o last
+  spoken_says : (all : List Output) (xs : List Execution) → StepSays s input t all xs → (o : Output) → IsSpoken o → IsIn all o → Says s input t o
+  spoken_says all xs h o is i =
+      elim (IsIn-append (h.row ++ h.view) (decide_all_outs xs) o (subst (λ (l : List Output). IsIn l o) h.whole (spoken_in all o is i))) [
+        | inr last ↦ of_decided all xs h o last
         | inl first ↦ elim (IsIn-append h.row h.view o first) [
-          | inl j ↦ of_row h.row o h.row_says j
+          | inl j ↦ of_row s t o input h.row h.row_says j
           | inr j ↦ of_view h.view o h.view_says j
         ]
       ]
 
-  pub each_says : (all : List Output) → StepSays s input t all → (o : Output) → IsIn all o → Says s input t o
-  each_says all h (output.Message to m) i = tt
-  each_says all h (output.Dispatched op key branch at) i = spoken_says all h (output.Dispatched op key branch at) tt i
-  each_says all h (output.Viewed first results) i = spoken_says all h (output.Viewed first results) tt i
-  each_says all h (output.Answer op outcome) i = spoken_says all h (output.Answer op outcome) tt i
+  pub each_says : (all : List Output) (xs : List Execution) → StepSays s input t all xs → (o : Output) → IsIn all o → Says s input t o
+  each_says all xs h (output.Message to m) i = tt
+  each_says all xs h (output.Dispatched op key branch at) i = spoken_says all xs h (output.Dispatched op key branch at) tt i
+  each_says all xs h (output.Viewed first results) i = spoken_says all xs h (output.Viewed first results) tt i
+  each_says all xs h (output.Answer op outcome) i = spoken_says all xs h (output.Answer op outcome) tt i

@@ -15,7 +15,7 @@ use Rattle.secondary_exec.specs.declared.waiting.Waiting.{Waiting}
 use Rattle.primary_exec.specs.declared.asking.Asking.{Asking}
 use Rattle.primary_exec.specs.Execution.{Execution}
 use Rattle.node_core.specs.Parts.{is_for}
-use Rattle.node_core.specs.Step.{NodeState}
+use Rattle.node_moves.specs.Parts.{Held}
 
 -- where contracts are disjoint, all four lists together have one member at most
 pub record AtKey : Type 0 where
@@ -39,17 +39,18 @@ waits_for hashes key w = has_key w.region hashes key
 abbrev pub follows_for : ℕ → List ℕ → Following → Bool
 follows_for hashes key f = has_key f.region hashes key
 
-abbrev pub at_key : List ℕ → NodeState → AtKey
-at_key key s =
+-- of a table with so many hashes
+abbrev pub at_key : ℕ → List ℕ → Held → AtKey
+at_key hashes key h =
     record {
-      life = s.life;
-      acted = s.log.acted;
-      asks = filter (asks_for s.setup.hashes key) s.asking;
-      writes = filter (is_for s.setup.hashes key) s.executions;
-      waits = filter (waits_for s.setup.hashes key) s.waiting;
-      follows = filter (follows_for s.setup.hashes key) s.followings;
-      version = version_of s.versions key;
-      row = row_of s.rows key;
+      life = h.life;
+      acted = h.acted;
+      asks = filter (asks_for hashes key) h.asking;
+      writes = filter (is_for hashes key) h.executions;
+      waits = filter (waits_for hashes key) h.waiting;
+      follows = filter (follows_for hashes key) h.followings;
+      version = version_of h.versions key;
+      row = row_of h.rows key;
     }
 
 -- ---- what becomes of the version and of the row

@@ -11,6 +11,7 @@ pub use Rattle.region_map.specs as region_map
 pub use Rattle.register_laws.specs as register_laws
 pub mod Keys
 pub mod Move
+pub mod Parts
 pub mod Says
 pub mod Sends
 pub use Rattle.secondary_exec.specs as secondary_exec

@@ -22,6 +22,7 @@ use Rattle.node_core.specs.declared.node.Brought.{Brought}
 use Rattle.node_core.specs.Starting.{due}
 use Rattle.node_core.specs.Step.{NodeState, askings_from, waitings_from}
 use Rattle.node_moves.specs.Keys.{AtKey, asks_for, at_key, row_at, version_at, version_started, waits_for}
+use Rattle.node_moves.specs.Parts.{held}
 use Rattle.node_moves.specs.Says.{IsServing}
 
 -- the versions of a node are of as many hashes as its table, and there are some
@@ -101,7 +102,7 @@ pub data Acts (s t : NodeState) (key : List ℕ) (a b : AtKey) : Type 0 where
 -- the whole step at a key
 pub record StepMoves (s : NodeState) (input : Input) (brought : Option Brought) (key : List ℕ) (t : NodeState) : Type 0 where
   pub row : AtKey  -- as the row of the input leaves it
-  pub moves : Move s input brought key (at_key key s) row
+  pub moves : Move s input brought key (at_key s.setup.hashes key (held s)) row
   pub acted : AtKey  -- once the node acted on what was committed
   pub acts : Acts s t key row acted
-  pub decides : at_key key t ≡ record acted { writes = map decided acted.writes }  -- each pending operation that is decided is answered
+  pub decides : at_key s.setup.hashes key (held t) ≡ record acted { writes = map decided acted.writes }  -- each pending operation that is decided is answered

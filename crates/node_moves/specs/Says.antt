@@ -1,5 +1,5 @@
 -- What a step of a node says: its answers, dispatches and views, each with its cause.
-use Rattle.std.specs.Prelude.{◌≡◌, ℕ, ◌+◌, ◌-◌, ◌==◌, Bool, true, false, List, [], ◌∷◌, ◌++◌, Some}
+use Rattle.std.specs.Prelude.{◌≡◌, ℕ, ◌+◌, ◌-◌, ◌==◌, true, false, List, [], ◌∷◌, ◌++◌, Some}
 use Rattle.std.specs.List.{list_any}
 use Rattle.list_laws.specs.Members.{IsIn}
 use Rattle.region_map.specs.declared.id.Id.{Id}
@@ -100,36 +100,32 @@ spoken (Dispatched op key branch at ∷ outs) = Dispatched op key branch at ∷ 
 spoken (Viewed first results ∷ outs) = Viewed first results ∷ spoken outs
 spoken (Answer op outcome ∷ outs) = Answer op outcome ∷ spoken outs
 
--- an input that no row answers
-abbrev pub is_quiet : Input → Bool
-is_quiet (Request op key what) = false
-is_quiet (GiveUp op) = false
-is_quiet (See other up) = true
-is_quiet Tick = true
-is_quiet (Deliver number) = true
-is_quiet Crash = true
-is_quiet Restart = true
+-- what a request is told
+pub data RequestSays (s : NodeState) (op : OpId) (key : List ℕ) (outs : List Output) : Type 0 where
+  Dispatches : (x : Execution) → IsServing s.setup.hashes key s.executions x → outs ≡ Dispatched op key x.branch (x.last + 1) ∷ [] → RequestSays s op key outs
+  Refuses : serves s key ≡ false → outs ≡ Answer op NotServing ∷ [] → RequestSays s op key outs
 
--- what the row of the input says
-pub data RowSays (s : NodeState) (input : Input) (outs : List Output) : Type 0 where
-  Dispatches : (op : OpId) (key : List ℕ) (what : Op) (x : Execution) → input ≡ Request op key what → IsServing s.setup.hashes key s.executions x
-      → outs ≡ Dispatched op key x.branch (x.last + 1) ∷ [] → RowSays s input outs
-  Refuses : (op : OpId) (key : List ℕ) (what : Op) → input ≡ Request op key what → serves s key ≡ false → outs ≡ Answer op NotServing ∷ [] → RowSays s input outs
-  GivesUp : (op : OpId) → input ≡ GiveUp op → outs ≡ give_up_all_outs s.executions op → RowSays s input outs
-  Quiet : is_quiet input ≡ true → outs ≡ [] → RowSays s input outs
+-- what the row of an input says
+abbrev pub RowSays : NodeState → Input → List Output → Type 0
+RowSays s (Request op key what) outs = RequestSays s op key outs
+RowSays s (GiveUp op) outs = outs ≡ give_up_all_outs s.executions op
+RowSays s (See other up) outs = outs ≡ []
+RowSays s Tick outs = outs ≡ []
+RowSays s (Deliver number) outs = outs ≡ []
+RowSays s Crash outs = outs ≡ []
+RowSays s Restart outs = outs ≡ []
 
 -- what it says of its view
 pub data ViewSays (s t : NodeState) (outs : List Output) : Type 0 where
   Stays : t.log.acted ≡ s.log.acted → outs ≡ [] → ViewSays s t outs
   Rises : (first : ℕ) (results : List (Change × Applied)) → SaysViewed s t first results → outs ≡ Viewed first results ∷ [] → ViewSays s t outs
 
--- what the step says
-pub record StepSays (s : NodeState) (input : Input) (t : NodeState) (outs : List Output) : Type 0 where
+-- what the step says: these are the executions before what is decided is answered
+pub record StepSays (s : NodeState) (input : Input) (t : NodeState) (outs : List Output) (xs : List Execution) : Type 0 where
   pub row : List Output
   pub row_says : RowSays s input row
   pub view : List Output
   pub view_says : ViewSays s t view
-  pub xs : List Execution  -- the executions before what is decided is answered
   pub after : t.executions ≡ decide_all xs
   -- each operation that waits there
   pub awaits : (x : Execution) → IsIn xs x → (op : OpId) (at : ℕ) (reply : Reply) → IsIn x.dispatch.waiting (record { op = Some op; at = at; reply = reply })

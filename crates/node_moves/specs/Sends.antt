@@ -1,5 +1,5 @@
 -- What a step of a node sends: its messages, each with where it comes from.
-use Rattle.std.specs.Prelude.{◌≡◌, ◌==◌, ◌+◌, ℕ, true, false, List, [], ◌∷◌, Option, Some, None}
+use Rattle.std.specs.Prelude.{◌≡◌, ◌==◌, ◌+◌, ℕ, true, false, List, [], ◌∷◌, Option, Some, None, nat_lt}
 use Rattle.list_laws.specs.Members.{IsIn}
 use Rattle.region_map.specs.declared.id.Id.{Id}
 use Rattle.region_map.specs.declared.id.NodeId.{NodeId}
@@ -17,7 +17,9 @@ use Rattle.contract_types.specs.declared.contract.Contract.{Contract}
 use Rattle.contract_types.specs.declared.contract.Holder.{Holder}
 use Rattle.contract_types.specs.Tables.{Table}
 use Rattle.table_log.specs.Logs.{LogState, table_of, restarted, may_take, log_step}
-use Rattle.coordinator.specs.Proposals.{proposals_of}
+use Rattle.coordinator.specs.declared.acks.ContractAcks.{ContractAcks}
+use Rattle.coordinator.specs.Acks.{with_ack}
+use Rattle.coordinator.specs.Proposals.{after_proposals, proposals_of}
 use Rattle.exec_types.specs.declared.input.Input.{Input}
 use Rattle.exec_types.specs.declared.input.Input.TheVariants.{Request, Tick, Crash, Restart}
 use Rattle.exec_types.specs.declared.message.Got.{Got}
@@ -36,7 +38,7 @@ use Rattle.primary_exec.specs.Execution.{Execution, has_room, needs_branch, part
 use Rattle.node_core.specs.declared.node.Brought.{Brought}
 use Rattle.node_core.specs.Saying.{is_asking_under, is_run_under, is_waiting_under, is_following_under}
 use Rattle.node_core.specs.Starting.{current_of}
-use Rattle.node_core.specs.Step.{NodeState, coordinates, propose_all}
+use Rattle.node_core.specs.Step.{NodeState, ack_fits, coordinates, leads, propose_all}
 use Rattle.node_moves.specs.Says.{IsServing}
 
 -- ---- the log
@@ -52,10 +54,22 @@ pub data LogMoves (s : NodeState) (input : Input) (brought : Option Brought) (lo
   -- what is planned is proposed, and then the log ticks
   Ticks : (planned : LogState) → input ≡ Tick → Proposes s planned → log ≡ (log_step planned (raft.Tick s.unseen)).log → sent ≡ (log_step planned (raft.Tick s.unseen)).sent
       → LogMoves s input brought log sent
-  Takes : (from : NodeId) (m : RaftMessage Change) → brought ≡ Some (record { from = from; message = message.Raft m }) → may_take s.log (raft.Deliver from m) ≡ true
+  Takes : (from : NodeId) (m : RaftMessage Change) → brought ≡ Some (record { from = from; message = message.Raft m }) → nat_lt from.0 s.setup.nodes ≡ true
+      → may_take s.log (raft.Deliver from m) ≡ true
       → log ≡ (log_step s.log (raft.Deliver from m)).log → sent ≡ (log_step s.log (raft.Deliver from m)).sent → LogMoves s input brought log sent
   GoesDown : input ≡ Crash → log ≡ restarted s.log → sent ≡ [] → LogMoves s input brought log sent
   ComesUp : input ≡ Restart → log ≡ restarted s.log → sent ≡ [] → LogMoves s input brought log sent
+
+-- what a leader keeps of the acks of servers
+pub data AcksMove (s : NodeState) (input : Input) (brought : Option Brought) (acks : List ContractAcks) : Type 0 where
+  Kept : acks ≡ s.acks → AcksMove s input brought acks
+  -- it does not lead, before or after
+  Lost : acks ≡ [] → AcksMove s input brought acks
+  -- a server said how far it is under a contract
+  Put : (from : NodeId) (contract : Id) (ack : Ack) → brought ≡ Some (record { from = from; message = message.Say contract ack }) → nat_lt from.0 s.setup.nodes ≡ true
+      → ack_fits s.setup.hashes ack ≡ true → leads s.log ≡ true → acks ≡ with_ack contract from ack s.acks → AcksMove s input brought acks
+  -- those on which what is planned rests are forgotten
+  Used : input ≡ Tick → coordinates s.log ≡ true → acks ≡ after_proposals s.acks (table_of s.log) → AcksMove s input brought acks
 
 -- the messages of the log among outputs
 abbrev pub logged_as : NodeId → Message → List (NodeId × RaftMessage Change) → List (NodeId × RaftMessage Change)
@@ -159,3 +173,4 @@ Sends s input brought t to m = SendsFrom s input brought (unacted s t) t.followi
 pub record StepLogs (s : NodeState) (input : Input) (brought : Option Brought) (t : NodeState) (outs : List Output) : Type 0 where
   pub moves : LogMoves s input brought (unacted s t) (logged outs)
   pub acts : t.log.acted ≡ t.log.raft.view
+  pub acks : AcksMove s input brought t.acks

@@ -2,7 +2,7 @@
 //!
 //! Above: the laws of runs. Below: `node_core`.
 //! Promise: of every step, whatever the state, the input and the message: what it says (`says_of_steps`), what it sends
-//! (`sends_of_steps`), and what it does at each key (`moves_of_steps`).
+//! (`sends_of_steps`), and what it does to the parts of the node and at each key (`moves_of_steps`).
 //! Words: docs/PROOF.md.
 #![tactic(auto)]
 
