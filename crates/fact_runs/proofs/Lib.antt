@@ -1,0 +1,7 @@
+mod Branches
+mod Contracts
+mod Indexes
+mod Makers
+mod Moments
+mod ToldLog
+mod Views
