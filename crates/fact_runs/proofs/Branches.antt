@@ -4,8 +4,8 @@ use Rattle.std.proofs.lemmas.Bool.{cases_Bool, cases_lt, both_ways, and_from, le
 use Rattle.std.specs.List.{AllByRecursion}
 use Rattle.path_facts.specs.Paths.{Birth}
 use Rattle.path_facts.specs.Paths as paths
-use Rattle.key_births.specs.Births.{birth_at, births_at, IsRising, GoOn}
-use Rattle.key_births.proofs.Births.{births_known, births_index, history_at}
+use Rattle.key_births.specs.Births.{key_version, birth_at, births_at, IsRising, GoOn}
+use Rattle.key_births.proofs.Births.{births_known, births_index, history_at, paths_at}
 use Rattle.row_runs.specs.runs.region_map.declared.id.Id.{Id}
 use Rattle.row_runs.specs.runs.region_map.declared.id.NodeId.{NodeId}
 use Rattle.row_runs.specs.runs.region_map.declared.region.Region.{Region}
@@ -24,7 +24,7 @@ use Rattle.row_runs.specs.runs.contract_types.declared.change.Change.{Change}
 use Rattle.row_runs.specs.runs.contract_types.declared.contract.Contract.{Contract}
 use Rattle.row_runs.specs.runs.contract_types.declared.config.ShardConfig.{ShardConfig}
 use Rattle.row_runs.specs.runs.contract_types.Setup.{SetupState, IsSetup}
-use Rattle.row_runs.specs.runs.contract_types.Tables.{branch_at, first_id, first_birth, first_branches, first_contracts, setup as first_table}
+use Rattle.row_runs.specs.runs.contract_types.Tables.{branch_at, first_id, first_birth, first_branches, setup as first_table}
 use Rattle.row_runs.specs.runs.table_apply.Runs.{change_at, table_at}
 use Rattle.row_runs.proofs.runs.table_apply.Tables.{histories}
 use Rattle.row_runs.proofs.runs.table_log.Holding.{fits_is}
@@ -36,7 +36,7 @@ use Rattle.row_runs.specs.runs.Committed.{IsEarlier}
 use Rattle.row_runs.proofs.change_runs.LedHistories.{knows_one}
 use Rattle.row_runs.proofs.change_runs.Asked.{Asked, IsAsked, history_of}
 use Rattle.row_runs.proofs.change_runs.AskedRuns.{asked_in}
-use Rattle.row_runs.proofs.change_runs.Registered.{IsRegistered, comes_from}
+use Rattle.row_runs.proofs.change_runs.Registered.{comes_from}
 use Rattle.row_runs.proofs.step_runs.PointBranches.{all_at}
 use Rattle.row_runs.proofs.step_runs.Told.{IsIn-right}
 use Rattle.row_runs.proofs.lead_runs.LedAsked.{asked_origin}
@@ -48,7 +48,7 @@ use Rattle.answer_runs.proofs.ServedTenures.{is_first}
 use Rattle.fact_runs.specs.KeyRuns.{told_changes, told_index, key_run}
 use Rattle.fact_runs.proofs.ToldLog.{told_fits, told_asked, told_history, history_told, views_then}
 use Rattle.fact_runs.proofs.Indexes.{index_upto, known_from}
-use Rattle.fact_runs.proofs.Contracts.{FirstOf, hash_within, key_first, told_contracts}
+use Rattle.fact_runs.proofs.Contracts.{hash_within, key_first, told_contracts}
 
 -- ---- the branches of a pair among those of a history
 
@@ -281,3 +281,9 @@ module _ (setup : SetupState) (ok : IsSetup setup) (past : List Entry) (run : Is
     pub key_born : (y : Birth Id) → paths.IsIn (key_run setup past key).births y
         → Born (told_index setup past) (table_at setup (told_changes setup past) (length (told_changes setup past))).history (hash_of key setup.hashes) key y
     key_born y i = born (told_index setup past) (H last) g key y (subst (λ (ys : List (Birth Id)). paths.IsIn ys y) births_are i)
+
+-- the paths of the table that is told, and those of the run at the key
+pub paths_told : (setup : SetupState) → IsSetup setup → (past : List Entry) → IsRun setup past → (key : List ℕ) (v x : Version)
+    → is_on (told_table setup past).history (hash_of key setup.hashes) key v x ≡ paths.on same_id (key_run setup past key).births (key_version v) (key_version x)
+paths_told setup ok past run key v x =
+    paths_at (told_index setup past) (told_table setup past).history (hash_of key setup.hashes) key v x (subst IsHistory (sym (told_history setup ok past run)) (whole_history setup ok past run))

@@ -18,15 +18,18 @@ use Rattle.row_runs.specs.runs.contract_types.Tables.{Table, first_contract, fir
 use Rattle.row_runs.specs.runs.table_apply.Effects.{applied_at}
 use Rattle.row_runs.specs.runs.table_apply.Runs.{change_at, table_at, contract_at}
 use Rattle.row_runs.proofs.runs.table_apply.Steps.{table_after}
+use Rattle.row_runs.specs.runs.table_log.Logs.{table_of}
 use Rattle.row_runs.specs.runs.node_core.declared.journal.Entry.{Entry}
 use Rattle.row_runs.specs.runs.Run.{IsRun}
 use Rattle.row_runs.specs.runs.Story.{IsIn}
 use Rattle.row_runs.proofs.change_runs.Asked.{IsAsked}
+use Rattle.row_runs.proofs.change_runs.AskedRuns.{contracts_stay}
 use Rattle.row_runs.proofs.step_runs.PointBranches.{all_at}
 use Rattle.row_runs.proofs.step_runs.Runs.{some_hash}
 use Rattle.row_runs.proofs.step_runs.ShardRoles.{HasRoles, setup_roles}
-use Rattle.row_runs.proofs.path_runs.OnPath.{ShardOf, shard_of}
-use Rattle.fact_runs.specs.KeyRuns.{told_changes, key_contract, contract_or_none, key_run}
+use Rattle.row_runs.proofs.path_runs.OnPath.{shard_of}
+use Rattle.fact_runs.specs.KeyRuns.{moment, state_at, told_changes, key_contract, contract_or_none, key_run}
+use Rattle.fact_runs.proofs.Moments.{moment_run}
 use Rattle.fact_runs.proofs.ToldLog.{told_asked}
 
 -- ---- voters are replicas
@@ -117,9 +120,6 @@ module _ (setup : SetupState) (ok : IsSetup setup) (past : List Entry) (run : Is
       let s = shard_of setup ok (hash_of key setup.hashes) key hash_within in
       first_of 0 setup.shards (hash_of key setup.hashes) key s.shard s.is_in s.inside
 
-
-
-
   pub contract_is : (w : ℕ) → (key_run setup past key).contract w ≡ key_contract (first_contract key_first.at key_first.shard)
   contract_is w =
       ap (λ (cs : List TableContract). contract_or_none (contract_at cs (hash_of key setup.hashes) key)) (told_contracts setup ok past run w) ∙ ap contract_or_none key_first.is
@@ -190,3 +190,10 @@ module _ (setup : SetupState) (ok : IsSetup setup) (past : List Entry) (run : Is
     where
       apart : ◌≡◌ {A = Option ℕ} None (Some key_first.shard.primary.0) → ⊥
       apart e = absurd (cc e)
+
+-- the contract of the key at a node's view is that of the node's own table
+pub own_contracts : (setup : SetupState) → IsSetup setup → (past : List Entry) → IsRun setup past → (key : List ℕ) (node m : ℕ)
+    → (key_run setup past key).contract ((key_run setup past key).view node m) ≡ contract_or_none (contract_at (table_of (state_at setup past node m).log).contracts (hash_of key setup.hashes) key)
+own_contracts setup ok past run key node m =
+    ap (λ (cs : List TableContract). contract_or_none (contract_at cs (hash_of key setup.hashes) key))
+    (told_contracts setup ok past run (state_at setup past node m).log.acted ∙ sym (contracts_stay setup ok (moment past m) (moment_run setup past run m) node))

@@ -1,6 +1,6 @@
 -- At which index of the log a branch came into the table.
-use Rattle.std.proofs.Common.{◌≡◌, ℕ, zero, suc, ◌≤◌, ◌<◌, true, false, cond, ◌++◌, List, [], ◌∷◌, inl, inr, refl, sym, ap, ◌∙◌, subst, arith, length}
-use Rattle.std.proofs.lemmas.Bool.{cases_Bool, cases_eq, cases_lt, both_ways}
+use Rattle.std.proofs.Common.{◌≡◌, ℕ, zero, suc, ◌≤◌, true, false, cond, List, inl, inr, sym, subst, arith}
+use Rattle.std.proofs.lemmas.Bool.{cases_Bool, cases_lt}
 use Rattle.row_runs.specs.runs.region_map.declared.id.Id.{Id}
 use Rattle.row_runs.specs.runs.branch_history.Paths.{Branches}
 use Rattle.row_runs.specs.runs.branch_history.Histories.{knows}
@@ -8,7 +8,7 @@ use Rattle.row_runs.specs.runs.contract_types.declared.change.Change.{Change}
 use Rattle.row_runs.specs.runs.contract_types.Setup.{SetupState}
 use Rattle.row_runs.specs.runs.table_apply.Runs.{table_at}
 use Rattle.row_runs.proofs.change_runs.LedHistories.{knows_longer}
-use Rattle.row_runs.proofs.lead_runs.LedRuns.{Longer, table_longer}
+use Rattle.row_runs.proofs.lead_runs.LedRuns.{table_longer}
 use Rattle.fact_runs.specs.KeyRuns.{index_of}
 
 module _ (setup : SetupState) (changes : List Change) where

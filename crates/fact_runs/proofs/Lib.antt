@@ -1,7 +1,9 @@
-mod Branches
-mod Contracts
-mod Indexes
-mod Makers
-mod Moments
-mod ToldLog
-mod Views
+pub mod Branches
+pub mod Climbing
+pub mod Contracts
+pub mod Indexes
+pub mod Makers
+pub mod Moments
+pub mod ToldLog
+pub mod Versions
+pub mod Views

@@ -1,11 +1,10 @@
 -- Who made the branches of a key, in which life, and from what.
-use Rattle.std.proofs.Common.{◌≡◌, ◌⊎◌, ℕ, ◌+◌, ◌≤◌, ◌<◌, true, false, cond, List, [], ◌∷◌, ◌++◌, length, Option, Some, None, is_some, inl, inr, refl, sym, ap, ◌∙◌, subst, arith, append_assoc}
-use Rattle.std.proofs.lemmas.Bool.{cases_Bool, cases_lt}
+use Rattle.std.proofs.Common.{◌≡◌, ℕ, ◌≤◌, ◌<◌, true, false, cond, List, [], ◌∷◌, ◌++◌, length, Option, Some, None, is_some, inl, inr, refl, sym, ap, ◌∙◌, subst, arith, append_assoc}
 use Rattle.path_facts.specs.Paths.{Birth, TellsApart}
 use Rattle.path_facts.specs.Paths as paths
 use Rattle.path_facts.specs.Invariant.{Asked as AskedFact, LogFacts}
 use Rattle.key_births.specs.Births.{key_version, birth_at, births_at}
-use Rattle.key_births.proofs.Births.{names, births_index, births_known}
+use Rattle.key_births.proofs.Births.{names}
 use Rattle.row_runs.specs.runs.region_map.declared.id.Id.{Id}
 use Rattle.row_runs.specs.runs.region_map.declared.id.NodeId.{NodeId}
 use Rattle.row_runs.specs.runs.region_map.declared.region.Region.{Region}
@@ -15,7 +14,7 @@ use Rattle.row_runs.specs.runs.region_map.Maps.{value_at}
 use Rattle.row_runs.specs.runs.region_map.Nodes.{node_id}
 use Rattle.row_runs.specs.runs.region_map.Equal.{same_id}
 use Rattle.row_runs.specs.runs.branch_history.declared.history.BranchBirth.{BranchBirth}
-use Rattle.row_runs.specs.runs.branch_history.Paths.{Branches, or_zero, origin_at}
+use Rattle.row_runs.specs.runs.branch_history.Paths.{Branches, or_zero}
 use Rattle.row_runs.specs.runs.branch_history.Histories.{knows}
 use Rattle.row_runs.specs.runs.contract_types.declared.config.ShardConfig.{ShardConfig}
 use Rattle.row_runs.specs.runs.contract_types.Configs.{shard_region}
@@ -29,19 +28,18 @@ use Rattle.row_runs.specs.runs.node_core.Step.{NodeState}
 use Rattle.row_runs.specs.runs.Committed.{IsEarlier}
 use Rattle.row_runs.specs.runs.Run.{state, IsRun}
 use Rattle.row_runs.specs.runs.Story.{IsIn}
-use Rattle.row_runs.proofs.change_runs.Asked.{Asked, history_of}
+use Rattle.row_runs.proofs.change_runs.Asked.{history_of}
 use Rattle.row_runs.proofs.change_runs.LedHistories.{knows_one, some_inner, current_known}
 use Rattle.row_runs.proofs.step_runs.PointBranches.{all_at}
 use Rattle.row_runs.proofs.step_runs.Setups.{one_shard}
 use Rattle.row_runs.proofs.lead_runs.LedRoles.{IsAsking, asked_from, asking_region, asked_count, contracts_few, one_of_few}
-use Rattle.row_runs.proofs.lead_runs.LedRows.{kept}
 use Rattle.row_runs.proofs.lead_runs.LedRuns.{run_roles, earlier_run}
 use Rattle.row_runs.proofs.lead_runs.LedAsked.{IsOwn, asked_own, asked_based, asked_origin, current_some, known_life}
 use Rattle.fact_runs.specs.KeyRuns.{moment, told_changes, told_index, key_run}
-use Rattle.fact_runs.proofs.Moments.{moment_of, moment_earlier, moment_run}
+use Rattle.fact_runs.proofs.Moments.{moment_at, moment_earlier, moment_run}
 use Rattle.fact_runs.proofs.ToldLog.{history_told, views_then}
 use Rattle.fact_runs.proofs.Indexes.{index_upto, known_from}
-use Rattle.fact_runs.proofs.Contracts.{FirstOf, hash_within, key_first, primary_is, tenure_is, since_within, tenure_within, contracts_last, tenures_last}
+use Rattle.fact_runs.proofs.Contracts.{hash_within, key_first, primary_is, tenure_is, since_within, tenure_within, contracts_last, tenures_last}
 use Rattle.fact_runs.proofs.Branches.{Born, IsFirst, Came, comes, asker_is, births_are, births_in, key_history, key_born}
 
 module _ (setup : SetupState) (ok : IsSetup setup) (past : List Entry) (run : IsRun setup past) (key : List ℕ) where
@@ -89,7 +87,7 @@ module _ (setup : SetupState) (ok : IsSetup setup) (past : List Entry) (run : Is
   own y b c = asked_own setup ok past run c.maker b.id b.birth.region c.based_on b.birth.origin c.asked
 
   -- the key's primary makes it
-  maker_is : (y : Birth Id) → paths.IsIn (key_run setup past key).births y → y.maker ≡ (key_first setup ok past run key).shard.primary.0
+  pub maker_is : (y : Birth Id) → paths.IsIn (key_run setup past key).births y → y.maker ≡ (key_first setup ok past run key).shard.primary.0
   maker_is y i =
       let b = key_born setup ok past run key y i in
       ap (λ (z : Birth Id). z.maker) b.birth_is
@@ -98,7 +96,7 @@ module _ (setup : SetupState) (ok : IsSetup setup) (past : List Entry) (run : Is
         | Later c ↦ (own y b c).node_is ∙ sym (asker_is setup ok past run key (b.id, b.birth) b.older b.inside c)
       ]
 
-  tenure_0 : (y : Birth Id) → paths.IsIn (key_run setup past key).births y → y.tenure ≡ 0
+  pub tenure_0 : (y : Birth Id) → paths.IsIn (key_run setup past key).births y → y.tenure ≡ 0
   tenure_0 y i =
       let b = key_born setup ok past run key y i in
       ap (λ (z : Birth Id). z.tenure) b.birth_is ∙ elim (source y b) [ First f ↦ f.first.tenure_is | Later c ↦ c.tenure_is ]
@@ -112,6 +110,9 @@ module _ (setup : SetupState) (ok : IsSetup setup) (past : List Entry) (run : Is
 
   -- ---- lives
 
+  pub life_of : (y : Birth Id) → paths.IsIn (key_run setup past key).births y → y.life ≡ y.branch.life
+  life_of y i = let b = key_born setup ok past run key y i in ap (λ (z : Birth Id). z.life) b.birth_is ∙ ap (λ (z : Birth Id). z.branch.life) (sym b.birth_is)
+
   -- a node that acts on the log up to a branch of its own knows it
   known_at : (y : Birth Id) → paths.IsIn (key_run setup past key).births y → (m : List Entry) → IsEarlier past m → (n : ℕ) → y.registered ≤ (state setup n m).log.acted → knows (history_of setup n m) y.branch ≡ true
   known_at y i m early n l =
@@ -123,13 +124,23 @@ module _ (setup : SetupState) (ok : IsSetup setup) (past : List Entry) (run : Is
       subst (λ (bs : Branches). knows bs y.branch ≡ true) (sym (history_told setup ok past run m early n))
       (known_from setup (told_changes setup past) last (state setup n m).log.acted y.branch all (omega (arith, l, index)))
 
+  -- and one that knows it acts on the log up to it
+  pub known_index : (y : Birth Id) → paths.IsIn (key_run setup past key).births y → (m : List Entry) → IsEarlier past m → (n : ℕ) → knows (history_of setup n m) y.branch ≡ true → y.registered ≤ (state setup n m).log.acted
+  known_index y i m early n known =
+      let b = key_born setup ok past run key y i in
+      let index : y.registered ≡ told_index setup past y.branch = ap (λ (z : Birth Id). z.registered) b.birth_is ∙ ap (λ (z : Birth Id). told_index setup past z.branch) (sym b.birth_is) in
+      let low =
+      index_upto setup (told_changes setup past) last (state setup n m).log.acted y.branch (views_then setup ok past run m early n)
+      (subst (λ (bs : Branches). knows bs y.branch ≡ true) (history_told setup ok past run m early n) known) in
+      omega (arith, low, index)
+
   pub makers_are_old : (y : Birth Id) (i : ℕ) → paths.IsIn (key_run setup past key).births y → y.registered ≤ (key_run setup past key).view y.maker i → y.life ≤ (key_run setup past key).life y.maker i
   makers_are_old y i j l =
       let b = key_born setup ok past run key y j in
       let m : List Entry = moment past i in
       let known = known_at y j m (moment_earlier past i) y.maker l in
       let life = known_life setup ok m (moment_run setup past run i) y.maker y.branch known in
-      let of : y.branch.life ≡ y.life = ap (λ (z : Birth Id). z.branch.life) b.birth_is ∙ ap (λ (z : Birth Id). z.life) (sym b.birth_is) in
+      let of = life_of y j in
       let who : (state setup y.branch.node.0 m).life ≡ (state setup y.maker m).life =
       ap (λ (z : Birth Id). (state setup z.branch.node.0 m).life) b.birth_is ∙ ap (λ (z : Birth Id). (state setup z.maker m).life) (sym b.birth_is) in
       omega (arith, life, of, who)
@@ -279,7 +290,7 @@ module _ (setup : SetupState) (ok : IsSetup setup) (past : List Entry) (run : Is
           let m : List Entry = c.asked.moment in
           let early = c.asked.earlier in
           let n : ℕ = length m in
-          let is : moment past n ≡ m = ap (λ (p : List Entry). moment p n) early.is ∙ moment_of early.later m in
+          let is : moment past n ≡ m = moment_at past m early in
           let who : y.maker ≡ c.maker.0 = ap (λ (z : Birth Id). z.maker) b.birth_is ∙ (own y b c).node_is in
           let from_there : value_at b.birth.origin.pieces g key ≡ value_at (state setup c.maker.0 m).versions.pieces g key =
           asked_origin setup ok past run c.maker b.id b.birth.region c.based_on b.birth.origin c.asked g key (hash_within setup ok past run key) b.inside in

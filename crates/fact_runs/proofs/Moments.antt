@@ -1,6 +1,6 @@
 -- The moments of a run.
-use Rattle.std.proofs.Common.{◌≡◌, ℕ, ◌≤◌, true, cond, nat_le, List, [], ◌∷◌, ◌++◌, length, refl, sym, ap, ◌∙◌, subst, arith, length-append}
-use Rattle.std.proofs.lemmas.Bool.{cond_both, leb-true, leb-false, le-leb}
+use Rattle.std.proofs.Common.{◌≡◌, ℕ, ◌≤◌, cond, nat_le, List, [], ◌∷◌, ◌++◌, length, refl, sym, ap, ◌∙◌, subst, arith, length-append}
+use Rattle.std.proofs.lemmas.Bool.{cond_both, leb-true, le-leb}
 use Rattle.row_runs.specs.runs.contract_types.Setup.{SetupState}
 use Rattle.row_runs.specs.runs.node_core.declared.journal.Entry.{Entry}
 use Rattle.row_runs.specs.runs.Committed.{IsEarlier}
@@ -21,7 +21,14 @@ moment_of (e ∷ later) earlier =
     let low : length earlier ≤ length (later ++ earlier) = omega (arith, length-append later earlier) in
     ap (λ b. cond b (moment (later ++ earlier) (length earlier)) (e ∷ (later ++ earlier))) (le-leb (length earlier) (length (later ++ earlier)) low) ∙ moment_of later earlier
 
-itself : (past : List Entry) → IsEarlier past past
+-- the number of a moment that is given as a journal
+pub moment_at : (past earlier : List Entry) → IsEarlier past earlier → moment past (length earlier) ≡ earlier
+moment_at past earlier i = ap (λ (p : List Entry). moment p (length earlier)) i.is ∙ moment_of i.later earlier
+
+pub moment_within : (past earlier : List Entry) → IsEarlier past earlier → length earlier ≤ length past
+moment_within past earlier i = let e = ap (length {A = Entry}) i.is in let l = length-append i.later earlier in omega (arith, e, l)
+
+pub itself : (past : List Entry) → IsEarlier past past
 itself past = record { later = []; is = refl }
 
 one_more : (e : Entry) (past earlier : List Entry) → IsEarlier past earlier → IsEarlier (e ∷ past) earlier

@@ -1,10 +1,9 @@
 -- The log that a run tells: what each node acts on is a front of it.
-use Rattle.std.proofs.Common.{◌≡◌, ◌⊎◌, ℕ, zero, suc, ◌+◌, ◌≤◌, ◌<◌, ◌==◌, true, false, cond, ◌&&◌, not, nat_lt, List, [], ◌∷◌, ◌++◌, length, map, take, get_or, Some, inl, inr, refl, sym, ap, ap₂, ◌∙◌, subst, arith, length-take}
-use Rattle.std.proofs.lemmas.Bool.{cond_both, cases_eq, cases_lt, ltb-true, ltb-false, and_parts, lt-ltb, false_from_ne_true, eqb-true}
+use Rattle.std.proofs.Common.{◌≡◌, ◌⊎◌, ℕ, zero, suc, ◌+◌, ◌≤◌, ◌<◌, ◌==◌, true, false, cond, ◌&&◌, not, nat_lt, List, [], ◌∷◌, ◌++◌, length, map, take, inl, inr, refl, sym, ap, ap₂, ◌∙◌, subst, arith, length-take}
+use Rattle.std.proofs.lemmas.Bool.{cond_both, cases_eq, cases_lt, ltb-true, ltb-false, and_parts, false_from_ne_true, eqb-true}
 use Rattle.std.proofs.lemmas.List.{take-take, take-append-le, get_or_push, get_or_append_left, map-append, length-map}
 use Rattle.std.proofs.Math.ListN.{get_or-eq_default}
 use Rattle.row_runs.specs.runs.raft_vote.declared.log.LogEntry.{LogEntry}
-use Rattle.row_runs.specs.runs.branch_history.Paths.{Branches}
 use Rattle.row_runs.specs.runs.contract_types.declared.applied.Applied.{Applied}
 use Rattle.row_runs.specs.runs.contract_types.declared.change.Change.{Change}
 use Rattle.row_runs.specs.runs.contract_types.declared.change.Change.TheVariants.{Noop}
@@ -14,7 +13,7 @@ use Rattle.row_runs.specs.runs.table_apply.Effects.{applied_at}
 use Rattle.row_runs.specs.runs.table_apply.Runs.{change_at, table_at}
 use Rattle.row_runs.proofs.runs.table_apply.Tables.{depends}
 use Rattle.row_runs.specs.runs.table_log.Fitting.{changes_of, fits}
-use Rattle.row_runs.specs.runs.table_log.Logs.{LogState, result_at, results_from, table_of}
+use Rattle.row_runs.specs.runs.table_log.Logs.{result_at, results_from}
 use Rattle.row_runs.proofs.runs.table_log.Acting.{results_count}
 use Rattle.row_runs.proofs.runs.table_log.Prefixes.{same_entries}
 use Rattle.row_runs.specs.runs.node_core.declared.journal.Entry.{Entry}
@@ -28,7 +27,7 @@ use Rattle.row_runs.proofs.change_runs.AskedRuns.{acted_within, registered_asked
 use Rattle.row_runs.proofs.step_runs.Told.{IsIn-left, IsIn-right}
 use Rattle.row_runs.proofs.log_runs.LogWorldRuns.{moving}
 use Rattle.row_runs.proofs.log_runs.LogWorldLaws.{logs_agree, views_are}
-use Rattle.row_runs.proofs.lead_runs.LedRuns.{Longer, table_longer, config_is, all_fit, Within, history_within}
+use Rattle.row_runs.proofs.lead_runs.LedRuns.{all_fit, history_within}
 use Rattle.row_runs.proofs.path_runs.OnPath.{each_asked}
 use Rattle.fact_runs.specs.KeyRuns.{told_changes}
 

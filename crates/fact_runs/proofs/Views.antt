@@ -1,5 +1,5 @@
 -- How far a node acts on the log, and in which life, over the moments of a run.
-use Rattle.std.proofs.Common.{◌≡◌, ℕ, ◌≤◌, List, length, ap, subst, sym, arith}
+use Rattle.std.proofs.Common.{ℕ, ◌≤◌, List, length, subst, sym, arith}
 use Rattle.row_runs.specs.runs.contract_types.Setup.{SetupState, IsSetup}
 use Rattle.row_runs.specs.runs.node_core.declared.journal.Entry.{Entry}
 use Rattle.row_runs.specs.runs.Run.{state, IsRun}

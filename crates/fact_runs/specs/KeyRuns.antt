@@ -1,6 +1,5 @@
 -- What a run shows of one key.
 use Rattle.std.specs.Prelude.{ℕ, zero, suc, nat_le, List, [], ◌∷◌, length, map, Option, Some, None, if◌then◌else◌}
-use Rattle.path_facts.specs.Paths.{Version}
 use Rattle.path_facts.specs.Runs.{Contract, KeyRun}
 use Rattle.key_births.specs.Births.{key_version, births_at}
 use Rattle.row_runs.specs.runs.region_map.declared.id.Id.{Id}
