@@ -11,7 +11,7 @@ use Rattle.serde_json.specs.Read.{read}
 use Rattle.serde_json.specs.View.{members_view}
 use Rattle.serde_json.specs.declared.value.Value.{Value}
 use Rattle.script_text.specs.Lines.{lines, is_line_end, begin_line, line_data}
-use Rattle.script_text.specs.Grammar.{are_named}
+use Rattle.script_text.specs.Members.{are_named}
 
 -- where the first LF stands, or the length
 abbrev end_of : List ℕ → ℕ

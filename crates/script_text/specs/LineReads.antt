@@ -1,43 +1,45 @@
 -- What lines were read as.
-use Rattle.std.specs.Prelude.{◌≡◌, List, Vec, Option, Some, None, Result, MatchResult, ⊤}
+use Rattle.std.specs.Prelude.{◌≡◌, List, Vec, Option, Result, Ok, Err, MatchResult, ⊤}
 use Rattle.std.specs.declared.alloc.Global.{Global}
 use Rattle.contract_types.specs.declared.config.ConfigRefused.{ConfigRefused}
-use Rattle.contract_types.specs.declared.config.ConfigRefused.TheVariants.{NoShards, Region, Replicas, Roles, Overlap, Gap, OutOfMemory as NoMemoryForShards}
-use Rattle.script_text.specs.declared.status.Reason.TheVariants.{NotBuilt}
+use Rattle.contract_types.specs.declared.config.ConfigRefused.TheVariants as config
+use Rattle.script_text.specs.declared.status.Reason.{Reason}
+use Rattle.script_text.specs.declared.status.Reason.TheVariants.{NoShards, Region, Replicas, Roles, Overlap, Gap}
 use Rattle.script_text.specs.declared.line_refused.LineRefused.{LineRefused}
-use Rattle.script_text.specs.declared.line_refused.LineRefused.TheVariants.{Reason, OutOfMemory}
+use Rattle.script_text.specs.declared.line_refused.LineRefused.TheVariants.{Because, OutOfMemory}
 use Rattle.script_text.specs.declared.script_refused.ScriptRefused.{ScriptRefused}
-use Rattle.script_text.specs.declared.script_refused.ScriptRefused.TheVariants.{Line, OutOfMemory as NoMemory}
-use Rattle.script_text.specs.Lines.{Reading, ScriptRead, Refused}
+use Rattle.script_text.specs.declared.script_refused.ScriptRefused.TheVariants as script
+use Rattle.script_text.specs.Lines.{Reading, ScriptRead, Refused, TooLong}
 
--- a refused line says nothing; of want of memory nothing is known
-abbrev pub IsRefusedAs : {A : Type 0} → LineRefused → Option A → Type 0
-IsRefusedAs (Reason reason) said = said ≡ None
+-- a refused line says why; of want of memory nothing is known
+abbrev pub IsRefusedAs : {A : Type 0} → LineRefused → Result A Reason → Type 0
+IsRefusedAs (Because reason) said = said ≡ Err reason
 IsRefusedAs OutOfMemory said = Unit {0}
 
--- what was read is what is said, and a line is refused exactly where nothing is said
-abbrev pub IsReadAs : {A : Type 0} → Result A LineRefused → Option A → Type 0
-IsReadAs result said = MatchResult result (λ a. said ≡ Some a) (λ why. IsRefusedAs why said)
+-- what was read is what is said, and a line is refused exactly for the reason that is said
+abbrev pub IsReadAs : {A : Type 0} → Result A LineRefused → Result A Reason → Type 0
+IsReadAs result said = MatchResult result (λ a. said ≡ Ok a) (λ why. IsRefusedAs why said)
 
 -- the same of what is read into a vector
-abbrev pub AreReadAs : {A : Type 0} → Result (Vec A Global) LineRefused → Option (List A) → Type 0
-AreReadAs result said = MatchResult result (λ v. said ≡ Some v.items) (λ why. IsRefusedAs why said)
+abbrev pub AreReadAs : {A : Type 0} → Result (Vec A Global) LineRefused → Result (List A) Reason → Type 0
+AreReadAs result said = MatchResult result (λ v. said ≡ Ok v.items) (λ why. IsRefusedAs why said)
 
 -- what is said after a line was taken
-abbrev pub IsTaken : Result ⊤ LineRefused → Reading → Option Reading → Type 0
-IsTaken result after said = MatchResult result (λ _. said ≡ Some after) (λ why. IsRefusedAs why said)
+abbrev pub IsTaken : Result ⊤ LineRefused → Reading → Result Reading Reason → Type 0
+IsTaken result after said = MatchResult result (λ _. said ≡ Ok after) (λ why. IsRefusedAs why said)
 
--- the first refused line; of want of memory nothing is known
+-- the first refused line with its reason, or one that is too long; of want of memory nothing is known
 abbrev pub IsScriptRefusedAs : ScriptRefused → ScriptRead → Type 0
-IsScriptRefusedAs (Line number reason) said = said ≡ Refused number
-IsScriptRefusedAs NoMemory said = Unit {0}
+IsScriptRefusedAs (script.Line number reason) said = said ≡ Refused number reason
+IsScriptRefusedAs script.LineTooLong said = said ≡ TooLong
+IsScriptRefusedAs script.OutOfMemory said = Unit {0}
 
--- a line whose shards break a rule of a configuration is refused
+-- shards that break a rule of a configuration give the rule as the reason
 abbrev pub refusal : ConfigRefused → LineRefused
-refusal NoShards = Reason NotBuilt
-refusal Region = Reason NotBuilt
-refusal Replicas = Reason NotBuilt
-refusal Roles = Reason NotBuilt
-refusal Overlap = Reason NotBuilt
-refusal Gap = Reason NotBuilt
-refusal NoMemoryForShards = OutOfMemory
+refusal config.NoShards = Because NoShards
+refusal config.Region = Because Region
+refusal config.Replicas = Because Replicas
+refusal config.Roles = Because Roles
+refusal config.Overlap = Because Overlap
+refusal config.Gap = Because Gap
+refusal config.OutOfMemory = OutOfMemory

@@ -8,18 +8,18 @@ use std::alloc::{AllocError, AllocFailed};
 #[derive(Clone, Copy, Debug, PartialEq, Eq)]
 pub(crate) enum LineRefused {
     /// The line is refused for this reason.
-    Reason(Reason),
+    Because(Reason),
     OutOfMemory,
 }
 
 impl From<Reason> for LineRefused {
     ghost use Rattle.std.specs.Prelude.{◌≡◌};
-    ghost use Rattle.script_text.specs.declared.line_refused.LineRefused.TheVariants.{Reason};
+    ghost use Rattle.script_text.specs.declared.line_refused.LineRefused.TheVariants.{Because};
 
-    ghost from_gives = { λ r e. e ≡ Reason r };
+    ghost from_gives = { λ r e. e ≡ Because r };
 
     fn from(reason: Reason) -> LineRefused {
-        LineRefused::Reason(reason)
+        LineRefused::Because(reason)
     }
 }
 
@@ -31,8 +31,13 @@ impl From<ConfigRefused> for LineRefused {
 
     fn from(refused: ConfigRefused) -> LineRefused {
         match refused {
+            ConfigRefused::NoShards => LineRefused::Because(Reason::NoShards),
+            ConfigRefused::Region => LineRefused::Because(Reason::Region),
+            ConfigRefused::Replicas => LineRefused::Because(Reason::Replicas),
+            ConfigRefused::Roles => LineRefused::Because(Reason::Roles),
+            ConfigRefused::Overlap => LineRefused::Because(Reason::Overlap),
+            ConfigRefused::Gap => LineRefused::Because(Reason::Gap),
             ConfigRefused::OutOfMemory => LineRefused::OutOfMemory,
-            _ => LineRefused::Reason(Reason::NotBuilt),
         }
     }
 }

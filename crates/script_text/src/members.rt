@@ -2,9 +2,9 @@
 ghost use Rattle.std.specs.Prelude.{◌≡◌, List, map, option_map, string_bytes, bytes_eq};
 ghost use Rattle.std.specs.List.{list_all, list_any};
 ghost use Rattle.std.specs.Map.{keys_of};
-ghost use Rattle.script_text.specs.Grammar.{kept_if, number_in, number_or, text_in, op_in, node_at, node_in, node_or_none, truth_in, has_only};
+ghost use Rattle.script_text.specs.Members.{number_in, number_or, text_in, op_in, node_at, node_in, node_or_none, truth_in, has_only};
+ghost use Rattle.script_text.specs.Grammar.{key_of};
 ghost use Rattle.script_text.specs.LineReads.{IsReadAs};
-ghost use Rattle.region_map.specs.Keys.{is_key};
 ghost use Rattle.serde_json.specs.Find.{get};
 ghost use Rattle.serde_json.specs.View.{view};
 
@@ -86,12 +86,12 @@ pub(crate) fn truth_in(name: &str, line: &Value) -> Option<bool>
 
 /// A text as a key.
 pub(crate) fn key_of(alloc: Global, text: &str) -> Result<Key, LineRefused>
-    ensures { IsReadAs result (kept_if (is_key text.now) text.now) }
+    ensures { IsReadAs result (key_of text.now) }
 {
     let bytes = Vec::from_slice(alloc, text.as_bytes())?;
     match Key::new(bytes) {
         Ok(key) => Ok(key),
-        Err(_length) => Err(LineRefused::Reason(Reason::NotBuilt)),
+        Err(_length) => Err(LineRefused::Because(Reason::KeyLength)),
     }
 }
 

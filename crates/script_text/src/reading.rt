@@ -1,6 +1,6 @@
 //! Reading a script line by line.
 ghost use Rattle.std.specs.Prelude.{◌≡◌, OnErr, IfOk, IfErr};
-ghost use Rattle.script_text.specs.Lines.{Accepted, read_lines, said, take_line, take_data, take_named, take_setup, take_word, at_first};
+ghost use Rattle.script_text.specs.Lines.{Accepted, read_lines, said, most_line_bytes, take_line, take_json, take_data, take_named, take_setup, take_word, at_first};
 ghost use Rattle.script_text.specs.LineReads.{IsTaken, IsScriptRefusedAs};
 ghost use Rattle.script_text.specs.Sound.{IsSound};
 ghost use Rattle.serde_json.specs.View.{view};
@@ -8,6 +8,7 @@ ghost use Rattle.serde_json.specs.View.{view};
 use crate::line_refused::LineRefused;
 use crate::lines::{is_blank, read_line, split_line};
 use crate::members::text_in;
+use crate::shapes::{has_members, is_here};
 use crate::words::{setup_of, word_named};
 use crate::{Reason, Script, ScriptItem, ScriptRefused, ScriptWord};
 use contract_types::Setup;
@@ -16,6 +17,9 @@ use serde_json::Value;
 use std::alloc::Global;
 use std::collections::BTreeSet;
 use std::marker::Model;
+
+/// The most bytes of a line, without its LF.
+pub const MOST_LINE_BYTES: usize = 65536;
 
 /// What the lines so far said.
 #[derive(Drop)]
@@ -70,16 +74,45 @@ impl Reader {
             return Ok(());
         }
         match read_line(alloc, line)? {
-            Some(value) => self.take_data(alloc, number, &value),
-            None => Err(LineRefused::Reason(Reason::NotBuilt)),
+            Some(value) => self.take_json(alloc, number, &value),
+            None => Err(LineRefused::Because(Reason::BadJson)),
         }
     }
 
-    /// Takes what a line reads as.
+    /// Takes what a line reads as, if it is an object.
+    fn take_json(&mut self, alloc: Global, number: u64, line: &Value) -> Result<(), LineRefused>
+        ensures { IsTaken result self.new (take_json self.old number (view line.now)) }
+    {
+        if !line.is_object() {
+            return Err(LineRefused::Because(Reason::BadJson));
+        }
+        self.take_data(alloc, number, line)
+    }
+
+    /// Takes an object with the members of its word, if none is of the other program.
     fn take_data(&mut self, alloc: Global, number: u64, line: &Value) -> Result<(), LineRefused>
         ensures { IsTaken result self.new (take_data self.old number (view line.now)) }
     {
-        let name = text_in("do", line).ok_or(Reason::NotBuilt)?;
+        let name = text_in("do", line).ok_or(Reason::Word)?;
+        if !has_members(name, line)? {
+            return Err(LineRefused::Because(Reason::Member));
+        }
+        if !is_here(line) {
+            return Err(LineRefused::Because(Reason::NotHere));
+        }
+        self.take_named(alloc, number, name, line)
+    }
+
+    /// Takes the word of this name.
+    fn take_named(
+        &mut self,
+        alloc: Global,
+        number: u64,
+        name: &str,
+        line: &Value,
+    ) -> Result<(), LineRefused>
+        ensures { IsTaken result self.new (take_named self.old number name.now (view line.now)) }
+    {
         if name == "setup" {
             return self.take_setup(alloc, line);
         }
@@ -92,7 +125,7 @@ impl Reader {
         ensures { IsTaken result self.new (take_setup self.old (view line.now)) }
     {
         if self.begun {
-            return Err(LineRefused::Reason(Reason::NotBuilt));
+            return Err(LineRefused::Because(Reason::Place));
         }
         self.setup = setup_of(alloc, line)?;
         self.begun = true;
@@ -106,7 +139,7 @@ impl Reader {
         self.items.reserve(1)?;
         if let ScriptWord::Request { op, .. } = &word {
             if !self.known.insert(op.0)? {
-                return Err(LineRefused::Reason(Reason::NotBuilt));
+                return Err(LineRefused::Because(Reason::OpKnown));
             }
         }
         self.items.push_reserved(ScriptItem { line, word });
@@ -117,7 +150,9 @@ impl Reader {
 
 /// Reads a script to its end, or to the first line that is refused.
 ///
-/// Its first line may set up the table; without one the table has one shard, one node and eight hashes.
+/// Its first line may set up the table; without one the table has one shard, one node and eight hashes. The first
+/// line that is refused is told with the first reason that holds of it, unless a line up to it has more than
+/// 65,536 bytes without its LF.
 pub fn read_script(alloc: Global, text: &[u8]) -> Result<Script, ScriptRefused>
     ensures ok { IfOk result (λ script. read_lines text.now ≡ Accepted script) }
     ensures sound { IfOk result IsSound }
@@ -132,9 +167,12 @@ pub fn read_script(alloc: Global, text: &[u8]) -> Result<Script, ScriptRefused>
     while !rest.is_empty() {
         let (line, after) = split_line(rest);
         number += 1;
+        if line.len() > MOST_LINE_BYTES {
+            return Err(ScriptRefused::LineTooLong);
+        }
         match reader.take_line(alloc, number, line) {
             Ok(()) => rest = after,
-            Err(LineRefused::Reason(reason)) => return Err(ScriptRefused::Line(number, reason)),
+            Err(LineRefused::Because(reason)) => return Err(ScriptRefused::Line(number, reason)),
             Err(LineRefused::OutOfMemory) => return Err(ScriptRefused::OutOfMemory),
         }
     }

@@ -10,6 +10,9 @@ pub enum ScriptRefused {
     /// The first line that is refused, counted from 1, and why.
     #[error("line {0} is refused")]
     Line(u64, Reason),
+    /// A line before any refused one has more than 65,536 bytes without its LF.
+    #[error("a line is too long")]
+    LineTooLong,
     #[error("out of memory")]
     OutOfMemory,
 }

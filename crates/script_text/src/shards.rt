@@ -1,20 +1,21 @@
 //! The shards that a setup asks for.
 ghost use Rattle.std.specs.Prelude.{◌≡◌, ◌<◌, [], option_map, IfSome, IsTrue};
 ghost use Rattle.contract_types.specs.Setup.{is_setup};
-ghost use Rattle.script_text.specs.Grammar.{node_of, nodes_with, nodes_of, nodes_or, hash_at, band_of, band_or, from_of, from_or, to_of, to_or, region_of, shard_of, shards_from, shards_of, config_of, setup_with};
+ghost use Rattle.script_text.specs.Members.{node_of, nodes_with, nodes_of, nodes_or, hash_at, band_of, band_or};
+ghost use Rattle.script_text.specs.Grammar.{from_or, to_or, region_of, shard_of, shards_from, shards_of, config_of, setup_with};
 ghost use Rattle.script_text.specs.LineReads.{IsReadAs, AreReadAs};
 ghost use Rattle.serde_json.specs.View.{view, items_view};
 
 use crate::Reason;
 use crate::line_refused::LineRefused;
-use crate::members::{has_only, key_of};
+use crate::members::key_of;
 use contract_types::{Setup, ShardConfig, TableConfig};
 use region_map::{Key, NodeId, NodeSet, Region};
 use serde_json::Value;
 use std::alloc::Global;
 
 /// A node by its number.
-fn node_of(value: &Value) -> Option<NodeId>
+pub(crate) fn node_of(value: &Value) -> Option<NodeId>
     ensures value { result ≡ node_of (view value.now) }
     ensures small { IfSome result (λ node. node.0 < 64) }
 {
@@ -54,24 +55,20 @@ fn nodes_or(default: NodeSet, list: Option<&Value>) -> Option<NodeSet>
     }
 }
 
-/// The number at a place of a pair, if the table has so many hashes.
-fn hash_at(place: usize, hashes: u8, pair: &Value) -> Option<u8>
-    ensures { result ≡ hash_at place hashes (view pair.now) }
+/// The number of hashes at a place of a pair.
+fn hash_at(place: usize, pair: &Value) -> Option<u8>
+    ensures { result ≡ hash_at place (view pair.now) }
 {
     let hash = pair.get(place).and_then(Value::as_u64)?;
-    if hash <= hashes as u64 {
-        Some(hash as u8)
-    } else {
-        None
-    }
+    if hash < 64 { Some(hash as u8) } else { None }
 }
 
 /// The two hashes of a pair.
-fn band_of(hashes: u8, pair: &Value) -> Option<(u8, u8)>
-    ensures { result ≡ band_of hashes (view pair.now) }
+fn band_of(pair: &Value) -> Option<(u8, u8)>
+    ensures { result ≡ band_of (view pair.now) }
 {
-    let from = hash_at(0, hashes, pair)?;
-    let to = hash_at(1, hashes, pair)?;
+    let from = hash_at(0, pair)?;
+    let to = hash_at(1, pair)?;
     if pair.get(2usize).is_some() {
         return None;
     }
@@ -79,12 +76,12 @@ fn band_of(hashes: u8, pair: &Value) -> Option<(u8, u8)>
 }
 
 /// The two hashes of a pair, or all hashes where there is none.
-fn band_or(hashes: u8, pair: Option<&Value>) -> Option<(u8, u8)>
+pub(crate) fn band_or(hashes: u8, pair: Option<&Value>) -> Option<(u8, u8)>
     ensures { result ≡ band_or hashes (option_map (λ v. view v.now) pair.entry) }
 {
     match pair {
         None => Some((0, hashes)),
-        Some(pair) => band_of(hashes, pair),
+        Some(pair) => band_of(pair),
     }
 }
 
@@ -95,7 +92,7 @@ fn from_or(alloc: Global, from: Option<&Value>) -> Result<Option<Key>, LineRefus
     let Some(from) = from else {
         return Ok(None);
     };
-    let text = from.as_str().ok_or(Reason::NotBuilt)?;
+    let text = from.as_str().ok_or(Reason::Member)?;
     if text.is_empty() {
         return Ok(None);
     }
@@ -113,7 +110,7 @@ fn to_or(alloc: Global, to: Option<&Value>) -> Result<Option<Key>, LineRefused>
     if to.is_null() {
         return Ok(None);
     }
-    let text = to.as_str().ok_or(Reason::NotBuilt)?;
+    let text = to.as_str().ok_or(Reason::Member)?;
     let key = key_of(alloc, text)?;
     Ok(Some(key))
 }
@@ -122,7 +119,7 @@ fn to_or(alloc: Global, to: Option<&Value>) -> Result<Option<Key>, LineRefused>
 fn region_of(alloc: Global, hashes: u8, shard: &Value) -> Result<Region, LineRefused>
     ensures { IsReadAs result (region_of hashes (view shard.now)) }
 {
-    let (hash_from, hash_to) = band_or(hashes, shard.get("hash")).ok_or(Reason::NotBuilt)?;
+    let (hash_from, hash_to) = band_or(hashes, shard.get("hash")).ok_or(Reason::Member)?;
     let from = from_or(alloc, shard.get("from"))?;
     let to = to_or(alloc, shard.get("to"))?;
     Ok(Region {
@@ -141,16 +138,12 @@ fn shard_of(alloc: Global, hashes: u8, shard: &Value) -> Result<ShardConfig, Lin
     let replicas = shard
         .get("replicas")
         .and_then(nodes_of)
-        .ok_or(Reason::NotBuilt)?;
-    let voters = nodes_or(replicas, shard.get("voters")).ok_or(Reason::NotBuilt)?;
+        .ok_or(Reason::Member)?;
+    let voters = nodes_or(replicas, shard.get("voters")).ok_or(Reason::Member)?;
     let primary = shard
         .get("primary")
         .and_then(node_of)
-        .ok_or(Reason::NotBuilt)?;
-    let names = ["replicas", "voters", "primary", "hash", "from", "to"];
-    if !has_only(&names, shard) {
-        return Err(LineRefused::Reason(Reason::NotBuilt));
-    }
+        .ok_or(Reason::Member)?;
     Ok(ShardConfig {
         region,
         replicas,
@@ -160,6 +153,7 @@ fn shard_of(alloc: Global, hashes: u8, shard: &Value) -> Result<ShardConfig, Lin
 }
 
 /// These shards.
+#[tactic(auto, using(crate::proofs::ShardLaws::after_nothing, crate::proofs::ShardLaws::after_both))]
 fn shards_from(alloc: Global, hashes: u8, items: &[Value]) -> Result<Vec<ShardConfig>, LineRefused>
     ensures { AreReadAs result (shards_from hashes (items_view items.now)) }
 {
@@ -174,7 +168,7 @@ fn shards_from(alloc: Global, hashes: u8, items: &[Value]) -> Result<Vec<ShardCo
 fn shards_of(alloc: Global, hashes: u8, list: &Value) -> Result<Vec<ShardConfig>, LineRefused>
     ensures { AreReadAs result (shards_of hashes (view list.now)) }
 {
-    let items = list.as_array().ok_or(Reason::NotBuilt)?;
+    let items = list.as_array().ok_or(Reason::Member)?;
     shards_from(alloc, hashes, items)
 }
 

@@ -4,11 +4,43 @@ ghost use Rattle.script_text.specs.Statuses.{reason_text, status_number};
 
 use contract_types::Which;
 
-/// Why a line of a script is refused.
+/// Why a line of a script is refused: the first of these that holds, in this order.
 #[derive(Clone, Copy, Debug, PartialEq, Eq)]
 pub enum Reason {
-    /// The line is none that the programs read today.
+    /// The line is no JSON object.
+    BadJson,
+    /// `do` is missing, or no word.
+    Word,
+    /// No program plays this word yet.
     NotBuilt,
+    /// A member is missing, unknown or of a wrong kind, or a number in `shards` is above 63.
+    Member,
+    /// A member is one of the other program.
+    NotHere,
+    /// A setup is not the first line that is not blank.
+    Place,
+    /// The number of nodes, of hashes or of rounds is none that a table or a line may have.
+    Range,
+    /// A node that does not stand in `shards` is none of the table.
+    Node,
+    /// A key, or a bound other than a `from` of `""`, is not of 1 to 64 bytes.
+    KeyLength,
+    /// A value has more than 1,024 bytes.
+    ValueLength,
+    /// An earlier line has this operation's number.
+    OpKnown,
+    /// A setup has no shards, or more than 16.
+    NoShards,
+    /// A shard's region is empty, or has hashes that the table has not.
+    Region,
+    /// A shard has no replicas, or one that is no node of the table.
+    Replicas,
+    /// A voter is no replica, or a primary is no voter.
+    Roles,
+    /// Two shards overlap.
+    Overlap,
+    /// Some key lies in no shard.
+    Gap,
 }
 
 /// How a program ended.
@@ -34,7 +66,23 @@ impl Reason {
         ensures { result.now ≡ reason_text self.now }
     {
         match self {
+            Reason::BadJson => "bad_json",
+            Reason::Word => "word",
             Reason::NotBuilt => "not_built",
+            Reason::Member => "member",
+            Reason::NotHere => "not_here",
+            Reason::Place => "place",
+            Reason::Range => "range",
+            Reason::Node => "node",
+            Reason::KeyLength => "key_length",
+            Reason::ValueLength => "value_length",
+            Reason::OpKnown => "op_known",
+            Reason::NoShards => "no_shards",
+            Reason::Region => "region",
+            Reason::Replicas => "replicas",
+            Reason::Roles => "roles",
+            Reason::Overlap => "overlap",
+            Reason::Gap => "gap",
         }
     }
 }

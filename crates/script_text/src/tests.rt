@@ -1,5 +1,6 @@
 //! Worked scripts.
 use crate::lines::read_line;
+use crate::shapes::{has_members, is_here};
 use crate::words::word_named;
 use crate::{Reason, ScriptRefused, ScriptWord, Setup, Status, read_script};
 use contract_types::ShardConfig;
@@ -82,58 +83,95 @@ fn accepts_scripts(rt: HostRuntime) -> Result<(), Fail> {
 #[test]
 fn refuses_the_first_bad_line(rt: HostRuntime) -> Result<(), Fail> {
     let good = "{\"do\":\"deliver\",\"message\":1}\n";
-    let cases: [&str; 22] = [
-        "{\"do\":\"delete\",\"op\":1,\"node\":0,\"key\":\"a\",\"value\":\"x\"}",
-        "{\"do\":\"read\",\"op\":1,\"node\":0}",
-        "{\"do\":\"giveup\",\"node\":0,\"op\":1}",
-        "{\"do\":\"lose\",\"message\":1,\"from\":0,\"to\":1}",
-        "{\"do\":\"setup\",\"nodes\":3}",
-        "{\"do\":\"put\",\"op\":1,\"node\":1,\"key\":\"a\",\"value\":\"x\"}",
-        "{\"do\":\"put\",\"op\":1,\"node\":0,\"key\":\"\",\"value\":\"x\"}",
-        "{\"do\":\"put\",\"op\":1,\"node\":0,\"key\":1,\"value\":\"x\"}",
-        "{\"do\":\"put\",\"op\":1,\"node\":0,\"key\":\"a\"}",
-        "{\"do\":\"put\",\"op\":1,\"node\":0,\"key\":\"a\",\"value\":\"x\",\"after\":0}",
-        "{\"do\":\"put\",\"op\":-1,\"node\":0,\"key\":\"a\",\"value\":\"x\"}",
-        "{\"do\":\"deliver\",\"message\":1.0}",
-        "{\"do\":\"deliver\",\"message\":18446744073709551616}",
-        "{\"do\":\"deliver\",\"message\":1} {}",
-        "{\"do\":\"Deliver\",\"message\":1}",
-        "{\"message\":1}",
-        "{\"do\":1,\"message\":1}",
-        "[]",
-        "\"deliver\"",
-        "deliver",
-        "{",
-        "\u{a0}",
+    let cases: [(&str, Reason); 25] = [
+        (
+            "{\"do\":\"delete\",\"op\":1,\"node\":0,\"key\":\"a\",\"value\":\"x\"}",
+            Reason::Member,
+        ),
+        ("{\"do\":\"read\",\"op\":1,\"node\":0}", Reason::Member),
+        ("{\"do\":\"giveup\",\"node\":0,\"op\":1}", Reason::Member),
+        (
+            "{\"do\":\"lose\",\"message\":1,\"from\":0,\"to\":1}",
+            Reason::Member,
+        ),
+        ("{\"do\":\"setup\",\"nodes\":3}", Reason::Place),
+        (
+            "{\"do\":\"put\",\"op\":1,\"node\":1,\"key\":\"a\",\"value\":\"x\"}",
+            Reason::Node,
+        ),
+        (
+            "{\"do\":\"put\",\"op\":1,\"node\":0,\"key\":\"\",\"value\":\"x\"}",
+            Reason::KeyLength,
+        ),
+        (
+            "{\"do\":\"put\",\"op\":1,\"node\":0,\"key\":1,\"value\":\"x\"}",
+            Reason::Member,
+        ),
+        (
+            "{\"do\":\"put\",\"op\":1,\"node\":0,\"key\":\"a\"}",
+            Reason::Member,
+        ),
+        (
+            "{\"do\":\"put\",\"op\":1,\"node\":0,\"key\":\"a\",\"value\":\"x\",\"after\":0}",
+            Reason::NotHere,
+        ),
+        (
+            "{\"do\":\"put\",\"op\":-1,\"node\":0,\"key\":\"a\",\"value\":\"x\"}",
+            Reason::Member,
+        ),
+        ("{\"do\":\"deliver\",\"message\":1.0}", Reason::Member),
+        (
+            "{\"do\":\"deliver\",\"message\":18446744073709551616}",
+            Reason::Member,
+        ),
+        ("{\"do\":\"deliver\",\"message\":1} {}", Reason::BadJson),
+        ("{\"do\":\"Deliver\",\"message\":1}", Reason::Word),
+        ("{\"message\":1}", Reason::Word),
+        ("{\"do\":1,\"message\":1}", Reason::Word),
+        ("[]", Reason::BadJson),
+        ("\"deliver\"", Reason::BadJson),
+        ("deliver", Reason::BadJson),
+        ("{", Reason::BadJson),
+        ("\u{a0}", Reason::BadJson),
+        ("{\"do\":\"stop\"}", Reason::Word),
+        ("{\"do\":\"fail\",\"node\":0}", Reason::NotBuilt),
+        ("{\"do\":\"config\"}", Reason::NotBuilt),
     ];
-    for bad in cases {
+    for (bad, reason) in cases {
         let text = format!(in rt.alloc(); "{good}{bad}\n{bad}")?;
         assert_eq!(rt;
             told(rt.alloc(), text.as_bytes()).err(),
-            Some(ScriptRefused::Line(2, Reason::NotBuilt)),
+            Some(ScriptRefused::Line(2, reason)),
             "{bad}"
         );
     }
-    let first: [&[u8]; 5] = [
-        b"\xff",
-        b"{\"do\":\"setup\",\"nodes\":0}",
-        b"{\"do\":\"setup\",\"nodes\":8}",
-        b"{\"do\":\"setup\",\"nodes\":3,\"hash\":3}",
-        b"{\"do\":\"setup\",\"nodes\":3,\"hash\":null}",
+    let first: [(&[u8], Reason); 6] = [
+        (b"\xff", Reason::BadJson),
+        (b"{\"do\":\"setup\",\"nodes\":0}", Reason::Range),
+        (b"{\"do\":\"setup\",\"nodes\":8}", Reason::Range),
+        (b"{\"do\":\"setup\",\"nodes\":3,\"hash\":3}", Reason::Range),
+        (
+            b"{\"do\":\"setup\",\"nodes\":3,\"hash\":null}",
+            Reason::Member,
+        ),
+        (
+            b"{\"do\":\"setup\",\"nodes\":9,\"seed\":1}",
+            Reason::NotHere,
+        ),
     ];
-    for bad in first {
+    for (bad, reason) in first {
         assert_eq!(rt;
             told(rt.alloc(), bad).err(),
-            Some(ScriptRefused::Line(1, Reason::NotBuilt))
+            Some(ScriptRefused::Line(1, reason))
         );
     }
     Ok(())
 }
 
-/// Whether a line is a word for a table of three nodes.
-fn is_word(alloc: Global, members: &str) -> Result<bool, Fail> {
+/// Why a line is refused in a table of three nodes, if it is.
+fn refusal(alloc: Global, members: &str) -> Result<Option<ScriptRefused>, Fail> {
     let text = format!(in alloc; "{{\"do\":\"setup\",\"nodes\":3}}\n{{\"do\":{members}}}")?;
-    Ok(told(alloc, text.as_bytes()).is_ok())
+    Ok(told(alloc, text.as_bytes()).err())
 }
 
 #[test]
@@ -152,37 +190,45 @@ fn accepts_faults_and_rounds(rt: HostRuntime) -> Result<(), Fail> {
         "\"settle\",\"rounds\":100,\"only\":[1]",
     ];
     for members in accepted {
-        assert!(rt; is_word(rt.alloc(), members)?, "{members}");
+        assert!(rt; refusal(rt.alloc(), members)?.is_none(), "{members}");
     }
     Ok(())
 }
 
 #[test]
 fn refuses_faults_and_rounds(rt: HostRuntime) -> Result<(), Fail> {
-    let refused: [&str; 20] = [
-        "\"see\",\"node\":0,\"other\":2,\"up\":1",
-        "\"see\",\"node\":0,\"other\":3,\"up\":true",
-        "\"see\",\"node\":0,\"up\":true",
-        "\"see\",\"node\":0,\"other\":2",
-        "\"crash\"",
-        "\"crash\",\"node\":3",
-        "\"restart\",\"node\":0,\"up\":true",
-        "\"tick\",\"node\":null",
-        "\"deliver\",\"message\":1,\"node\":3",
-        "\"deliver\",\"message\":1,\"node\":null",
-        "\"lose\"",
-        "\"lose\",\"from\":0",
-        "\"lose\",\"from\":0,\"to\":3",
-        "\"flush\",\"only\":0",
-        "\"flush\",\"only\":null",
-        "\"flush\",\"only\":[0,3]",
-        "\"settle\"",
-        "\"settle\",\"rounds\":0",
-        "\"settle\",\"rounds\":101",
-        "\"settle\",\"rounds\":1,\"only\":[3]",
+    let refused: [(&str, Reason); 24] = [
+        ("\"see\",\"node\":0,\"other\":2,\"up\":1", Reason::Member),
+        ("\"see\",\"node\":0,\"other\":3,\"up\":true", Reason::Node),
+        ("\"see\",\"node\":0,\"up\":true", Reason::Member),
+        ("\"see\",\"node\":0,\"other\":2", Reason::Member),
+        ("\"crash\"", Reason::Member),
+        ("\"crash\",\"node\":3", Reason::Node),
+        ("\"restart\",\"node\":0,\"up\":true", Reason::Member),
+        ("\"tick\",\"node\":null", Reason::Member),
+        ("\"deliver\",\"message\":1,\"node\":3", Reason::Node),
+        ("\"deliver\",\"message\":1,\"node\":null", Reason::Member),
+        ("\"lose\"", Reason::Member),
+        ("\"lose\",\"from\":0", Reason::Member),
+        ("\"lose\",\"from\":0,\"to\":3", Reason::Node),
+        ("\"flush\",\"only\":0", Reason::Member),
+        ("\"flush\",\"only\":null", Reason::Member),
+        ("\"flush\",\"only\":[0,3]", Reason::Node),
+        ("\"settle\"", Reason::Member),
+        ("\"settle\",\"rounds\":0", Reason::Range),
+        ("\"settle\",\"rounds\":101", Reason::Range),
+        ("\"settle\",\"rounds\":1,\"only\":[3]", Reason::Node),
+        ("\"settle\",\"rounds\":0,\"only\":[3]", Reason::Range),
+        ("\"flush\",\"only\":[64]", Reason::Node),
+        ("\"crash\",\"node\":3,\"after\":1", Reason::NotHere),
+        ("\"crash\",\"node\":3,\"after\":null", Reason::Member),
     ];
-    for members in refused {
-        assert!(rt; !is_word(rt.alloc(), members)?, "{members}");
+    for (members, reason) in refused {
+        assert_eq!(rt;
+            refusal(rt.alloc(), members)?,
+            Some(ScriptRefused::Line(2, reason)),
+            "{members}"
+        );
     }
     Ok(())
 }
@@ -202,7 +248,8 @@ fn shards_told(alloc: Global, members: &str) -> Result<String, Fail> {
     let mut told = String::new(alloc);
     let script = match read_script(alloc, text.as_bytes()) {
         Ok(script) => script,
-        Err(refused) => return Ok(format!(in alloc; "{refused}")?),
+        Err(ScriptRefused::Line(_, reason)) => return Ok(format!(in alloc; "{}", reason.text())?),
+        Err(_) => return Ok(told),
     };
     for shard in script.setup().config().shards() {
         let ShardConfig {
@@ -231,7 +278,6 @@ fn reads_shards(rt: HostRuntime) -> Result<(), Fail> {
     let too_long = format!(in rt.alloc();
         ",\"shards\":[{{\"replicas\":[0],\"primary\":0,\"to\":\"{long}\"}}]"
     )?;
-    let refused = "line 1 is refused";
     let cases: [(&str, &str); 26] = [
         ("", "0-8 .. 3/3 0; "),
         (
@@ -242,64 +288,70 @@ fn reads_shards(rt: HostRuntime) -> Result<(), Fail> {
             ",\"hash\":2,\"shards\":[{\"replicas\":[0],\"primary\":0,\"hash\":[1,2]},{\"replicas\":[1],\"primary\":1,\"hash\":[0,1],\"from\":\"\",\"to\":null}]",
             "1-2 .. 1/1 0; 0-1 .. 1/1 1; ",
         ),
-        (",\"shards\":[]", refused),
-        (",\"shards\":null", refused),
-        (",\"shards\":[1]", refused),
-        (",\"shards\":[{\"primary\":0}]", refused),
-        (",\"shards\":[{\"replicas\":[0]}]", refused),
-        (",\"shards\":[{\"replicas\":0,\"primary\":0}]", refused),
-        (",\"shards\":[{\"replicas\":[],\"primary\":0}]", refused),
-        (",\"shards\":[{\"replicas\":[0,3],\"primary\":0}]", refused),
-        (",\"shards\":[{\"replicas\":[0,64],\"primary\":0}]", refused),
-        (",\"shards\":[{\"replicas\":[0,1],\"primary\":2}]", refused),
+        (",\"shards\":[]", "no_shards"),
+        (",\"shards\":null", "member"),
+        (",\"shards\":[1]", "member"),
+        (",\"shards\":[{\"primary\":0}]", "member"),
+        (",\"shards\":[{\"replicas\":[0]}]", "member"),
+        (",\"shards\":[{\"replicas\":0,\"primary\":0}]", "member"),
+        (",\"shards\":[{\"replicas\":[],\"primary\":0}]", "replicas"),
+        (
+            ",\"shards\":[{\"replicas\":[0,3],\"primary\":0}]",
+            "replicas",
+        ),
+        (
+            ",\"shards\":[{\"replicas\":[0,64],\"primary\":0}]",
+            "member",
+        ),
+        (",\"shards\":[{\"replicas\":[0,1],\"primary\":2}]", "roles"),
         (
             ",\"shards\":[{\"replicas\":[0],\"voters\":[0,1],\"primary\":0}]",
-            refused,
+            "roles",
         ),
         (
             ",\"shards\":[{\"replicas\":[0],\"voters\":null,\"primary\":0}]",
-            refused,
+            "member",
         ),
         (
             ",\"shards\":[{\"replicas\":[0],\"primary\":0,\"hash\":[0]}]",
-            refused,
+            "member",
         ),
         (
             ",\"shards\":[{\"replicas\":[0],\"primary\":0,\"hash\":[0,8,8]}]",
-            refused,
+            "member",
         ),
         (
             ",\"shards\":[{\"replicas\":[0],\"primary\":0,\"hash\":[0,9]}]",
-            refused,
+            "region",
         ),
         (
             ",\"shards\":[{\"replicas\":[0],\"primary\":0,\"hash\":[0,4]}]",
-            refused,
+            "gap",
         ),
         (
             ",\"shards\":[{\"replicas\":[0],\"primary\":0,\"from\":null}]",
-            refused,
+            "member",
         ),
         (
             ",\"shards\":[{\"replicas\":[0],\"primary\":0,\"from\":\"b\"}]",
-            refused,
+            "gap",
         ),
         (
             ",\"shards\":[{\"replicas\":[0],\"primary\":0,\"to\":\"\"}]",
-            refused,
+            "key_length",
         ),
-        (too_long.as_str(), refused),
+        (too_long.as_str(), "key_length"),
         (
             ",\"shards\":[{\"replicas\":[0],\"primary\":0,\"region\":0}]",
-            refused,
+            "member",
         ),
         (
             ",\"shards\":[{\"replicas\":[0],\"primary\":0},{\"replicas\":[0],\"primary\":0,\"from\":\"m\"}]",
-            refused,
+            "overlap",
         ),
         (
             ",\"shards\":[{\"replicas\":[0],\"primary\":0,\"to\":\"m\"},{\"replicas\":[0],\"primary\":0,\"from\":\"n\"}]",
-            refused,
+            "gap",
         ),
     ];
     for (members, expected) in cases {
@@ -314,12 +366,13 @@ fn reads_shards(rt: HostRuntime) -> Result<(), Fail> {
 
 #[test]
 fn keeps_lengths_and_numbers(rt: HostRuntime) -> Result<(), Fail> {
-    let cases: [(u64, usize, usize, Option<u64>); 5] = [
+    let cases: [(u64, usize, usize, Option<Reason>); 6] = [
         (2, 64, 1024, None),
         (2, 1, 0, None),
-        (1, 1, 1, Some(2)),
-        (2, 65, 1, Some(2)),
-        (2, 1, 1025, Some(2)),
+        (1, 1, 1, Some(Reason::OpKnown)),
+        (1, 65, 1025, Some(Reason::KeyLength)),
+        (2, 65, 1, Some(Reason::KeyLength)),
+        (2, 1, 1025, Some(Reason::ValueLength)),
     ];
     for (op, key_length, value_length, refused) in cases {
         let key = "k".repeat(rt.alloc(), key_length)?;
@@ -328,7 +381,7 @@ fn keeps_lengths_and_numbers(rt: HostRuntime) -> Result<(), Fail> {
             "{{\"do\":\"put\",\"op\":1,\"node\":0,\"key\":\"a\",\"value\":\"\"}}\n{{\"do\":\"put\",\"op\":{op},\"node\":0,\"key\":\"{key}\",\"value\":\"{value}\"}}"
         )?;
         let expected = match refused {
-            Some(line) => Some(ScriptRefused::Line(line, Reason::NotBuilt)),
+            Some(reason) => Some(ScriptRefused::Line(2, reason)),
             None => None,
         };
         assert_eq!(rt;
@@ -340,6 +393,13 @@ fn keeps_lengths_and_numbers(rt: HostRuntime) -> Result<(), Fail> {
     let reason = Reason::NotBuilt;
     assert!(rt; reason.text() == "not_built");
     assert_eq!(rt; Status::Script { line: 1, reason }.number(), 3);
+    let most = " ".repeat(rt.alloc(), 65536)?;
+    let blank = format!(in rt.alloc(); "{most}\r\n")?;
+    assert!(rt; told(rt.alloc(), most.as_bytes()).is_ok());
+    assert_eq!(rt;
+        told(rt.alloc(), blank.as_bytes()).err(),
+        Some(ScriptRefused::LineTooLong)
+    );
     Ok(())
 }
 
@@ -349,6 +409,9 @@ fn cas(alloc: Global, members: &str) -> Result<Option<Op>, Fail> {
     let Some(line) = read_line(alloc, line.as_bytes())? else {
         return Ok(None);
     };
+    if !(matches!(has_members("cas", &line), Ok(true)) && is_here(&line)) {
+        return Ok(None);
+    }
     match word_named(alloc, &Setup::whole(alloc, 2, 8)?, "cas", &line) {
         Ok(ScriptWord::Request { what, .. }) => Ok(Some(what)),
         _ => Ok(None),

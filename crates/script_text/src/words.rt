@@ -3,14 +3,14 @@ ghost use Rattle.std.specs.Prelude.{◌≡◌, nat_lt, option_map};
 ghost use Rattle.std.specs.List.{list_all};
 ghost use Rattle.region_map.specs.declared.id.NodeId.{NodeId};
 ghost use Rattle.script_text.specs.declared.script.ScriptWord.{ScriptWord};
-ghost use Rattle.script_text.specs.Grammar.{setup_of, put_of, delete_of, read_of, cas_of, giveup_of, see_of, node_word_of, deliver_of, lose_one_of, lose_between_of, lose_of, only_of, flush_of, settle_of, word_named, key_in, value_in, value_or_null, value_or_null_in};
+ghost use Rattle.script_text.specs.Members.{only_of};
+ghost use Rattle.script_text.specs.Grammar.{value_of, setup_of, put_of, delete_of, read_of, cas_of, giveup_of, see_of, node_word_of, deliver_of, lose_one_of, lose_between_of, lose_of, flush_of, settle_of, word_named, key_in, value_in, value_or_null, value_or_null_in};
 ghost use Rattle.script_text.specs.LineReads.{IsReadAs};
 ghost use Rattle.serde_json.specs.View.{view};
 
 use crate::line_refused::LineRefused;
 use crate::members::{
-    has_only, key_of, node_at, node_in, node_or_none, number_in, number_or, op_in, text_in,
-    truth_in,
+    key_of, node_at, node_in, node_or_none, number_in, number_or, op_in, text_in, truth_in,
 };
 use crate::shards::{nodes_of, setup_with};
 use crate::{Reason, ScriptWord};
@@ -24,14 +24,10 @@ use std::alloc::Global;
 pub(crate) fn setup_of(alloc: Global, line: &Value) -> Result<Setup, LineRefused>
     ensures { IsReadAs result (setup_of (view line.now)) }
 {
-    let nodes = number_in("nodes", line).ok_or(Reason::NotBuilt)?;
-    let hashes = number_or(8, "hash", line).ok_or(Reason::NotBuilt)?;
-    if !(has_only(&["do", "nodes", "hash", "shards"], line)
-        && 1 <= nodes
-        && nodes <= 7
-        && matches!(hashes, 1 | 2 | 4 | 8))
-    {
-        return Err(LineRefused::Reason(Reason::NotBuilt));
+    let nodes = number_in("nodes", line).ok_or(Reason::Member)?;
+    let hashes = number_or(8, "hash", line).ok_or(Reason::Member)?;
+    if !(1 <= nodes && nodes <= 7 && matches!(hashes, 1 | 2 | 4 | 8)) {
+        return Err(LineRefused::Because(Reason::Range));
     }
     setup_with(alloc, nodes as u8, hashes as u8, line.get("shards"))
 }
@@ -40,20 +36,27 @@ pub(crate) fn setup_of(alloc: Global, line: &Value) -> Result<Setup, LineRefused
 fn key_in(alloc: Global, line: &Value) -> Result<Key, LineRefused>
     ensures { IsReadAs result (key_in (view line.now)) }
 {
-    let text = text_in("key", line).ok_or(Reason::NotBuilt)?;
+    let text = text_in("key", line).ok_or(Reason::Member)?;
     key_of(alloc, text)
+}
+
+/// A text as a value.
+fn value_of(alloc: Global, text: &str) -> Result<RegisterValue, LineRefused>
+    ensures { IsReadAs result (value_of text.now) }
+{
+    let bytes = Vec::from_slice(alloc, text.as_bytes())?;
+    match RegisterValue::new(bytes) {
+        Ok(value) => Ok(value),
+        Err(_length) => Err(LineRefused::Because(Reason::ValueLength)),
+    }
 }
 
 /// The value of a line.
 fn value_in(alloc: Global, line: &Value) -> Result<RegisterValue, LineRefused>
     ensures { IsReadAs result (value_in (view line.now)) }
 {
-    let text = text_in("value", line).ok_or(Reason::NotBuilt)?;
-    let bytes = Vec::from_slice(alloc, text.as_bytes())?;
-    match RegisterValue::new(bytes) {
-        Ok(value) => Ok(value),
-        Err(_length) => Err(LineRefused::Reason(Reason::NotBuilt)),
-    }
+    let text = text_in("value", line).ok_or(Reason::Member)?;
+    value_of(alloc, text)
 }
 
 /// The value that a member tells: none by `null`.
@@ -63,12 +66,9 @@ fn value_or_null(alloc: Global, member: &Value) -> Result<Option<RegisterValue>,
     if member.is_null() {
         return Ok(None);
     }
-    let text = member.as_str().ok_or(Reason::NotBuilt)?;
-    let bytes = Vec::from_slice(alloc, text.as_bytes())?;
-    match RegisterValue::new(bytes) {
-        Ok(value) => Ok(Some(value)),
-        Err(_length) => Err(LineRefused::Reason(Reason::NotBuilt)),
-    }
+    let text = member.as_str().ok_or(Reason::Member)?;
+    let value = value_of(alloc, text)?;
+    Ok(Some(value))
 }
 
 /// The value at a name: none by `null`, but not by a missing member.
@@ -79,7 +79,7 @@ fn value_or_null_in(
 ) -> Result<Option<RegisterValue>, LineRefused>
     ensures { IsReadAs result (value_or_null_in name.now (view line.now)) }
 {
-    let member = line.get(name).ok_or(Reason::NotBuilt)?;
+    let member = line.get(name).ok_or(Reason::Member)?;
     value_or_null(alloc, member)
 }
 
@@ -87,13 +87,10 @@ fn value_or_null_in(
 fn put_of(alloc: Global, setup: &Setup, line: &Value) -> Result<ScriptWord, LineRefused>
     ensures { IsReadAs result (put_of setup.now (view line.now)) }
 {
-    let op = op_in("op", line).ok_or(Reason::NotBuilt)?;
-    let node = node_in(setup, line).ok_or(Reason::NotBuilt)?;
+    let op = op_in("op", line).ok_or(Reason::Member)?;
+    let node = node_in(setup, line).ok_or(Reason::Node)?;
     let key = key_in(alloc, line)?;
     let value = value_in(alloc, line)?;
-    if !has_only(&["do", "op", "node", "key", "value"], line) {
-        return Err(LineRefused::Reason(Reason::NotBuilt));
-    }
     let what = Op::Put(value);
     Ok(ScriptWord::Request {
         op,
@@ -107,12 +104,9 @@ fn put_of(alloc: Global, setup: &Setup, line: &Value) -> Result<ScriptWord, Line
 fn delete_of(alloc: Global, setup: &Setup, line: &Value) -> Result<ScriptWord, LineRefused>
     ensures { IsReadAs result (delete_of setup.now (view line.now)) }
 {
-    let op = op_in("op", line).ok_or(Reason::NotBuilt)?;
-    let node = node_in(setup, line).ok_or(Reason::NotBuilt)?;
+    let op = op_in("op", line).ok_or(Reason::Member)?;
+    let node = node_in(setup, line).ok_or(Reason::Node)?;
     let key = key_in(alloc, line)?;
-    if !has_only(&["do", "op", "node", "key"], line) {
-        return Err(LineRefused::Reason(Reason::NotBuilt));
-    }
     let what = Op::Delete;
     Ok(ScriptWord::Request {
         op,
@@ -126,12 +120,9 @@ fn delete_of(alloc: Global, setup: &Setup, line: &Value) -> Result<ScriptWord, L
 fn read_of(alloc: Global, setup: &Setup, line: &Value) -> Result<ScriptWord, LineRefused>
     ensures { IsReadAs result (read_of setup.now (view line.now)) }
 {
-    let op = op_in("op", line).ok_or(Reason::NotBuilt)?;
-    let node = node_in(setup, line).ok_or(Reason::NotBuilt)?;
+    let op = op_in("op", line).ok_or(Reason::Member)?;
+    let node = node_in(setup, line).ok_or(Reason::Node)?;
     let key = key_in(alloc, line)?;
-    if !has_only(&["do", "op", "node", "key"], line) {
-        return Err(LineRefused::Reason(Reason::NotBuilt));
-    }
     let what = Op::Read;
     Ok(ScriptWord::Request {
         op,
@@ -145,14 +136,11 @@ fn read_of(alloc: Global, setup: &Setup, line: &Value) -> Result<ScriptWord, Lin
 fn cas_of(alloc: Global, setup: &Setup, line: &Value) -> Result<ScriptWord, LineRefused>
     ensures { IsReadAs result (cas_of setup.now (view line.now)) }
 {
-    let op = op_in("op", line).ok_or(Reason::NotBuilt)?;
-    let node = node_in(setup, line).ok_or(Reason::NotBuilt)?;
+    let op = op_in("op", line).ok_or(Reason::Member)?;
+    let node = node_in(setup, line).ok_or(Reason::Node)?;
     let key = key_in(alloc, line)?;
     let expect = value_or_null_in(alloc, "expect", line)?;
     let put = value_or_null_in(alloc, "value", line)?;
-    if !has_only(&["do", "op", "node", "key", "expect", "value"], line) {
-        return Err(LineRefused::Reason(Reason::NotBuilt));
-    }
     let what = Op::Cas { expect, put };
     Ok(ScriptWord::Request {
         op,
@@ -163,78 +151,52 @@ fn cas_of(alloc: Global, setup: &Setup, line: &Value) -> Result<ScriptWord, Line
 }
 
 /// `giveup`: a client no longer waits.
-fn giveup_of(setup: &Setup, line: &Value) -> Option<ScriptWord>
+fn giveup_of(setup: &Setup, line: &Value) -> Result<ScriptWord, Reason>
     ensures { result ≡ giveup_of setup.now (view line.now) }
 {
-    let node = node_in(setup, line)?;
-    let op = op_in("for", line)?;
-    if !has_only(&["do", "node", "for"], line) {
-        return None;
-    }
-    Some(ScriptWord::GiveUp { node, op })
+    let op = op_in("for", line).ok_or(Reason::Member)?;
+    let node = node_in(setup, line).ok_or(Reason::Node)?;
+    Ok(ScriptWord::GiveUp { node, op })
 }
 
 /// `see`: a node is told whether it sees another one.
-fn see_of(setup: &Setup, line: &Value) -> Option<ScriptWord>
+fn see_of(setup: &Setup, line: &Value) -> Result<ScriptWord, Reason>
     ensures { result ≡ see_of setup.now (view line.now) }
 {
-    let node = node_in(setup, line)?;
-    let other = node_at("other", setup, line)?;
-    let up = truth_in("up", line)?;
-    if !has_only(&["do", "node", "other", "up"], line) {
-        return None;
-    }
-    Some(ScriptWord::See { node, other, up })
-}
-
-/// The node of `crash`, `restart` and `tick`, which have no other member.
-fn node_alone(setup: &Setup, line: &Value) -> Option<NodeId>
-    ensures { (word : NodeId → ScriptWord) → option_map word result ≡ node_word_of word setup.now (view line.now) }
-{
-    let node = node_in(setup, line)?;
-    if !has_only(&["do", "node"], line) {
-        return None;
-    }
-    Some(node)
+    let up = truth_in("up", line).ok_or(Reason::Member)?;
+    let node = node_in(setup, line).ok_or(Reason::Node)?;
+    let other = node_at("other", setup, line).ok_or(Reason::Node)?;
+    Ok(ScriptWord::See { node, other, up })
 }
 
 /// `deliver`: a message arrives.
-fn deliver_of(setup: &Setup, line: &Value) -> Option<ScriptWord>
+fn deliver_of(setup: &Setup, line: &Value) -> Result<ScriptWord, Reason>
     ensures { result ≡ deliver_of setup.now (view line.now) }
 {
-    let message = number_in("message", line)?;
-    let node = node_or_none("node", setup, line)?;
-    if !has_only(&["do", "message", "node"], line) {
-        return None;
-    }
-    Some(ScriptWord::Deliver { message, node })
+    let message = number_in("message", line).ok_or(Reason::Member)?;
+    let node = node_or_none("node", setup, line).ok_or(Reason::Node)?;
+    Ok(ScriptWord::Deliver { message, node })
 }
 
 /// `lose` with a message: it is lost.
-fn lose_one_of(line: &Value) -> Option<ScriptWord>
+fn lose_one_of(line: &Value) -> Result<ScriptWord, Reason>
     ensures { result ≡ lose_one_of (view line.now) }
 {
-    let message = number_in("message", line)?;
-    if !has_only(&["do", "message"], line) {
-        return None;
-    }
-    Some(ScriptWord::Lose(message))
+    let message = number_in("message", line).ok_or(Reason::Member)?;
+    Ok(ScriptWord::Lose(message))
 }
 
 /// `lose` with two nodes: what is under way from one to the other is lost.
-fn lose_between_of(setup: &Setup, line: &Value) -> Option<ScriptWord>
+fn lose_between_of(setup: &Setup, line: &Value) -> Result<ScriptWord, Reason>
     ensures { result ≡ lose_between_of setup.now (view line.now) }
 {
-    let from = node_at("from", setup, line)?;
-    let to = node_at("to", setup, line)?;
-    if !has_only(&["do", "from", "to"], line) {
-        return None;
-    }
-    Some(ScriptWord::LoseBetween { from, to })
+    let from = node_at("from", setup, line).ok_or(Reason::Node)?;
+    let to = node_at("to", setup, line).ok_or(Reason::Node)?;
+    Ok(ScriptWord::LoseBetween { from, to })
 }
 
 /// `lose`, with a message or with two nodes.
-fn lose_of(setup: &Setup, line: &Value) -> Option<ScriptWord>
+fn lose_of(setup: &Setup, line: &Value) -> Result<ScriptWord, Reason>
     ensures { result ≡ lose_of setup.now (view line.now) }
 {
     if line.get("message").is_some() {
@@ -267,29 +229,26 @@ fn are_nodes(setup: &Setup, set: &NodeSet) -> bool
 }
 
 /// `flush`: every waiting message arrives.
-fn flush_of(setup: &Setup, line: &Value) -> Option<ScriptWord>
+fn flush_of(setup: &Setup, line: &Value) -> Result<ScriptWord, Reason>
     ensures { result ≡ flush_of setup.now (view line.now) }
 {
-    let only = only_of(setup, line.get("only"))?;
-    if !has_only(&["do", "only"], line) {
-        return None;
-    }
-    Some(ScriptWord::Flush { only })
+    let only = only_of(setup, line.get("only")).ok_or(Reason::Node)?;
+    Ok(ScriptWord::Flush { only })
 }
 
 /// `settle`: ticks and waiting messages, round after round.
-fn settle_of(setup: &Setup, line: &Value) -> Option<ScriptWord>
+fn settle_of(setup: &Setup, line: &Value) -> Result<ScriptWord, Reason>
     ensures { result ≡ settle_of setup.now (view line.now) }
 {
-    let rounds = number_in("rounds", line)?;
-    let only = only_of(setup, line.get("only"))?;
-    if !(has_only(&["do", "rounds", "only"], line) && 0 < rounds && rounds <= 100) {
-        return None;
+    let rounds = number_in("rounds", line).ok_or(Reason::Member)?;
+    if !(0 < rounds && rounds <= 100) {
+        return Err(Reason::Range);
     }
-    Some(ScriptWord::Settle { rounds, only })
+    let only = only_of(setup, line.get("only")).ok_or(Reason::Node)?;
+    Ok(ScriptWord::Settle { rounds, only })
 }
 
-/// The word of a line whose `do` is this name.
+/// The word of a line whose `do` is this name, once the line has the members of the word.
 pub(crate) fn word_named(
     alloc: Global,
     setup: &Setup,
@@ -311,34 +270,34 @@ pub(crate) fn word_named(
         return cas_of(alloc, setup, line);
     }
     if name == "giveup" {
-        return Ok(giveup_of(setup, line).ok_or(Reason::NotBuilt)?);
+        return Ok(giveup_of(setup, line)?);
     }
     if name == "see" {
-        return Ok(see_of(setup, line).ok_or(Reason::NotBuilt)?);
+        return Ok(see_of(setup, line)?);
     }
     if name == "crash" {
-        let node = node_alone(setup, line).ok_or(Reason::NotBuilt)?;
+        let node = node_in(setup, line).ok_or(Reason::Node)?;
         return Ok(ScriptWord::Crash(node));
     }
     if name == "restart" {
-        let node = node_alone(setup, line).ok_or(Reason::NotBuilt)?;
+        let node = node_in(setup, line).ok_or(Reason::Node)?;
         return Ok(ScriptWord::Restart(node));
     }
     if name == "tick" {
-        let node = node_alone(setup, line).ok_or(Reason::NotBuilt)?;
+        let node = node_in(setup, line).ok_or(Reason::Node)?;
         return Ok(ScriptWord::Tick(node));
     }
     if name == "deliver" {
-        return Ok(deliver_of(setup, line).ok_or(Reason::NotBuilt)?);
+        return Ok(deliver_of(setup, line)?);
     }
     if name == "lose" {
-        return Ok(lose_of(setup, line).ok_or(Reason::NotBuilt)?);
+        return Ok(lose_of(setup, line)?);
     }
     if name == "flush" {
-        return Ok(flush_of(setup, line).ok_or(Reason::NotBuilt)?);
+        return Ok(flush_of(setup, line)?);
     }
     if name == "settle" {
-        return Ok(settle_of(setup, line).ok_or(Reason::NotBuilt)?);
+        return Ok(settle_of(setup, line)?);
     }
-    Err(LineRefused::Reason(Reason::NotBuilt))
+    Err(LineRefused::Because(Reason::Word))
 }

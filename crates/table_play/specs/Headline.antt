@@ -1,7 +1,7 @@
 -- What `play` promises: the status, the journal and the bytes that are written, from the words and the bytes that are read.
 use Rattle.std.specs.Prelude.{◌≡◌, ℕ, ◌<◌, ◌≤◌, Bool, true, false, ◌⊎◌, List, [], ◌∷◌, ◌++◌, length, take, codes, bytes_eq, Option, Some, None, IsTrue}
 use Rattle.contract_types.specs.declared.limits.Which.{Which}
-use Rattle.contract_types.specs.declared.limits.Which.TheVariants.{ScriptBytes}
+use Rattle.contract_types.specs.declared.limits.Which.TheVariants.{ScriptBytes, LineBytes}
 use Rattle.line_io.specs.Bytes.{Gives, Appends, IsAtEnd}
 use Rattle.line_io.specs.Counts.{rose}
 use Rattle.contract_types.specs.Setup.{SetupState, IsSetup}
@@ -10,9 +10,8 @@ use Rattle.node_core.specs.declared.journal.Entry.{Entry}
 use Rattle.node_core.specs.Journal.{JournalState, empty_journal}
 use Rattle.script_text.specs.declared.status.Status.{Status}
 use Rattle.script_text.specs.declared.status.Status.TheVariants as status
-use Rattle.script_text.specs.declared.status.Reason.TheVariants.{NotBuilt}
 use Rattle.script_text.specs.Script.{ScriptState}
-use Rattle.script_text.specs.Lines.{ScriptRead, Accepted, Refused, read_lines}
+use Rattle.script_text.specs.Lines.{ScriptRead, Accepted, Refused, TooLong, most_line_bytes, read_lines}
 use Rattle.report_text.specs.Report.{report, joined, usage_line, read_fault_line, script_line, limit_line}
 use Rattle.table_play.specs.Play.{play_journal, ending_of, number_of}
 
@@ -64,7 +63,8 @@ plays script =
 
 abbrev pub outcome_of_script : ScriptRead → Outcome
 outcome_of_script (Accepted script) = plays script
-outcome_of_script (Refused line) = only_says (status.Script line NotBuilt) (script_line line NotBuilt)
+outcome_of_script (Refused line reason) = only_says (status.Script line reason) (script_line line reason)
+outcome_of_script TooLong = only_says (status.Limit LineBytes most_line_bytes) (limit_line LineBytes most_line_bytes)
 
 abbrev pub outcome_of : Reading → Outcome
 outcome_of (Came text) = outcome_of_script (read_lines text)

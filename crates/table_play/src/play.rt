@@ -32,7 +32,7 @@ use report_text::{
     Ending, PrintRefused, Refusal, limit_line, print_report, read_fault_line, script_line,
     usage_line,
 };
-use script_text::{Script, ScriptRefused, Status, read_script};
+use script_text::{MOST_LINE_BYTES, Script, ScriptRefused, Status, read_script};
 use std::alloc::Global;
 use world_core::World;
 use world_steps::{MOST_ENTRIES, MOST_WEIGHT};
@@ -156,7 +156,7 @@ fn play_script<K: Sink>(
     }
 }
 
-/// Plays the script of a text, or says which line is refused.
+/// Plays the script of a text, or says which line is refused and why, or that a line is too long.
 fn play_text<K: Sink>(alloc: Global, text: &[u8], sink: &mut K, journal: &mut Journal) -> Status
     requires { journal.old ≡ empty_journal }
     ensures ends { Ends (outcome_of_script (read_lines text.now)) result journal.new (K.held sink.old) (K.held sink.new) (K.faults sink.old) (K.faults sink.new)
@@ -169,6 +169,20 @@ fn play_text<K: Sink>(alloc: Global, text: &[u8], sink: &mut K, journal: &mut Jo
             Err(_) => Status::OutOfMemory,
             Ok(printed) => say(sink, printed.as_bytes(), Status::Script { line, reason }),
         },
+        Err(ScriptRefused::LineTooLong) => {
+            let number = MOST_LINE_BYTES as u64;
+            match limit_line(alloc, Which::LineBytes, number) {
+                Err(_) => Status::OutOfMemory,
+                Ok(line) => say(
+                    sink,
+                    line.as_bytes(),
+                    Status::Limit {
+                        which: Which::LineBytes,
+                        number,
+                    },
+                ),
+            }
+        }
         Ok(script) => play_script(alloc, &script, sink, journal),
     }
 }

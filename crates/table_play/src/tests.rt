@@ -157,7 +157,7 @@ fn tells_faults(rt: HostRuntime) -> Result<(), Fail> {
     expect(
         &rt,
         outcome(alloc, b"{\"do\":\"stop\",\"node\":0}\n", 0, 0),
-        b"script 1 not_built\n",
+        b"script 1 word\n",
         3,
     )?;
     expect(&rt, outcome(alloc, b"{\"do\"", 2, 0), b"read fault\n", 4)?;

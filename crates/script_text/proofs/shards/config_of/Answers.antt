@@ -13,4 +13,4 @@ returns-in_err-config c =
     let h = c.in_err-config.ensures in
     let p = err_from_is_err_and c.from_residual.result c.from_residual.ensures.1 in
     rw (p.1, p.2) (refused_config x c.in_err-config.field-0.0
-    (λ e. h.no_shards.0 (ap Err e)) (λ e. h.region.0 (ap Err e)) (λ e. h.replicas.0 (ap Err e)) (λ e. h.roles.0 (ap Err e)) (λ e. (h.overlap.0 (ap Err e)).1) (λ e. (h.gap.0 (ap Err e)).2))
+    (λ e. h.no_shards.0 (ap Err e)) (λ e. h.region.0 (ap Err e)) (λ e. h.replicas.0 (ap Err e)) (λ e. h.roles.0 (ap Err e)) (λ e. h.overlap.0 (ap Err e)) (λ e. h.gap.0 (ap Err e)))
