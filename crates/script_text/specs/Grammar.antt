@@ -27,7 +27,7 @@
 --
 -- What is asked of a line comes in the order of the reasons: first its members (specs/Shapes.antt), then ranges, the nodes of
 -- the table, the lengths of keys, those of values, and at last the rules of a configuration.
-use Rattle.std.specs.Prelude.{ℕ, Bool, ◌==◌, ◌&&◌, nat_lt, nat_le, bytes_eq, codes, List, [], ◌∷◌, ◌++◌, length, Option, Some, None, not, is_some, option_and_then, ok_or, Result, Ok, Err, if◌then◌else◌}
+use Rattle.std.specs.Prelude.{ℕ, Bool, ◌==◌, ◌&&◌, nat_lt, nat_le, bytes_eq, codes, List, [], ◌∷◌, ◌++◌, length, Option, Some, None, is_some, option_and_then, ok_or, Result, Ok, Err, if◌then◌else◌}
 use Rattle.serde_json.specs.Data.{Data, Items, no_items, item}
 use Rattle.serde_json.specs.Find.{get, as_null, as_str, as_array}
 use Rattle.region_map.specs.Keys.{is_key}

@@ -1,5 +1,5 @@
 -- What lines were read as.
-use Rattle.std.specs.Prelude.{◌≡◌, List, Vec, Option, Result, Ok, Err, MatchResult, ⊤}
+use Rattle.std.specs.Prelude.{◌≡◌, List, Vec, Result, Ok, Err, MatchResult, ⊤}
 use Rattle.std.specs.declared.alloc.Global.{Global}
 use Rattle.contract_types.specs.declared.config.ConfigRefused.{ConfigRefused}
 use Rattle.contract_types.specs.declared.config.ConfigRefused.TheVariants as config

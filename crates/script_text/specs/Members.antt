@@ -1,5 +1,5 @@
 -- What stands in a line at a name.
-use Rattle.std.specs.Prelude.{ℕ, Bool, true, false, ◌&&◌, nat_lt, bytes_eq, codes, List, [], ◌∷◌, Option, Some, None, not, is_some, option_map, option_and_then, if◌then◌else◌}
+use Rattle.std.specs.Prelude.{ℕ, Bool, true, false, ◌&&◌, nat_lt, bytes_eq, codes, List, [], Option, Some, None, not, is_some, option_map, option_and_then, if◌then◌else◌}
 use Rattle.std.specs.List.{list_any, list_all}
 use Rattle.serde_json.specs.Data.{Data, null, boolean, number, string, array, object, Members, Items, no_items, item, no_members, member}
 use Rattle.serde_json.specs.Find.{get, at, as_bool, as_number, as_u64, as_str, as_array}
