@@ -40,6 +40,9 @@ use world_steps::{MOST_ENTRIES, MOST_WEIGHT};
 /// The most bytes of a script.
 const MOST_SCRIPT_BYTES: u64 = 16_777_216;
 
+/// The most bytes of a line of it.
+const LINE_BYTES: u64 = MOST_LINE_BYTES as u64;
+
 /// The greatest number that a life, a term, a timestamp, an id counter, a log index or a part number may be.
 const GREATEST_NUMBER: u64 = (1 << 62) - 1;
 
@@ -169,20 +172,17 @@ fn play_text<K: Sink>(alloc: Global, text: &[u8], sink: &mut K, journal: &mut Jo
             Err(_) => Status::OutOfMemory,
             Ok(printed) => say(sink, printed.as_bytes(), Status::Script { line, reason }),
         },
-        Err(ScriptRefused::LineTooLong) => {
-            let number = MOST_LINE_BYTES as u64;
-            match limit_line(alloc, Which::LineBytes, number) {
-                Err(_) => Status::OutOfMemory,
-                Ok(line) => say(
-                    sink,
-                    line.as_bytes(),
-                    Status::Limit {
-                        which: Which::LineBytes,
-                        number,
-                    },
-                ),
-            }
-        }
+        Err(ScriptRefused::LineTooLong) => match limit_line(alloc, Which::LineBytes, LINE_BYTES) {
+            Err(_) => Status::OutOfMemory,
+            Ok(line) => say(
+                sink,
+                line.as_bytes(),
+                Status::Limit {
+                    which: Which::LineBytes,
+                    number: LINE_BYTES,
+                },
+            ),
+        },
         Ok(script) => play_script(alloc, &script, sink, journal),
     }
 }
