@@ -1,6 +1,6 @@
 //! Runs at one key: every run has the facts from which it follows that decided points stay.
 //!
-//! Above: nothing. Below: `path_facts`, `key_births`, the laws of runs.
+//! Above: `decided_runs`. Below: `path_facts`, `key_births`, the laws of runs.
 //! Promise: the log, the contracts, the branches and the versions of a key are, in every run, as the facts of one key say.
 //! Words: docs/PROOF.md.
 #![tactic(auto)]
