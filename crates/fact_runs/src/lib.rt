@@ -5,6 +5,6 @@
 //! Words: docs/PROOF.md.
 #![tactic(auto)]
 
-pub use laws::{facts_of_runs, own_contracts_of_keys, paths_of_keys};
+pub use laws::{branches_of_keys_are_ordered, facts_of_runs, own_contracts_of_keys, paths_of_keys};
 
 pub mod laws;
