@@ -195,7 +195,7 @@ sent_by_holds setup past fs D from each (Dispatched op key branch timestamp ∷ 
 sent_by_holds setup past fs D from each (Viewed first results ∷ outs) h = sent_by_holds setup past fs D from each outs h.1
 sent_by_holds setup past fs D from each (Answer op outcome ∷ outs) h = sent_by_holds setup past fs D from each outs h.1
 
-answer_done : (fs : List Following) (D : OpId → Id → ℕ → Type 0) (outs : List Output) (op : OpId) (reply : Reply) (branch : Id) (at : ℕ) → AllByRecursion (OutIn fs D) outs
+pub answer_done : (fs : List Following) (D : OpId → Id → ℕ → Type 0) (outs : List Output) (op : OpId) (reply : Reply) (branch : Id) (at : ℕ) → AllByRecursion (OutIn fs D) outs
     → answer_in outs op ≡ Some (Done reply branch at) → D op branch at
 answer_done fs D [] op reply branch at h e = absurd (cc e)
 answer_done fs D (Message to m ∷ outs) op reply branch at h e = answer_done fs D outs op reply branch at h.1 e
@@ -253,7 +253,7 @@ kept_reaches setup past v since at key b (Some k) up h r =
     let le = leb-true at k.at (and_parts (nat_le since k.view) (nat_le at k.at) r).1 in
     reaches_low setup past v key b at k.at le (h k refl (omega (arith, up, le)))
 
-decides_held : (setup : SetupState) → IsSetup setup → (past : List Entry) (n life : ℕ) (x : Execution) → IsLed setup n life (lead_of x) → Backed setup.hashes n (Reaches setup past) (HasPoint setup past) x
+pub decides_held : (setup : SetupState) → IsSetup setup → (past : List Entry) (n life : ℕ) (x : Execution) → IsLed setup n life (lead_of x) → Backed setup.hashes n (Reaches setup past) (HasPoint setup past) x
     → Decides (DoneHeld setup past) x
 decides_held setup ok past n life x led k d i is op op_is =
     let w : HasPoint setup past x.contract.region op d.at = (all_at (WaitsIn (HasPoint setup past) x.contract.region) x.dispatch.waiting k.waits d i).of op op_is in
@@ -336,7 +336,7 @@ module _ (setup : SetupState) (ok : IsSetup setup) (past : List Entry) (e : Entr
         up = up;
       }
 
-  acted : AllByRecursion (B n) (act step).node.executions
+  pub acted : AllByRecursion (Backed setup.hashes e.node.0 (Reaches setup (e ∷ past)) (HasPoint setup (e ∷ past))) (act step).node.executions
   acted =
       let before = run_roles setup ok past run.1 n in
       let after = run_roles setup ok more run n in
@@ -401,7 +401,7 @@ module _ (setup : SetupState) (ok : IsSetup setup) (past : List Entry) (e : Entr
             ] refl is;
       }
 
-run_held : (setup : SetupState) → IsSetup setup → (past : List Entry) → IsRun setup past → RunHeld setup past
+pub run_held : (setup : SetupState) → IsSetup setup → (past : List Entry) → IsRun setup past → RunHeld setup past
 run_held setup ok [] run = record { told = tt; nodes = λ n. begin_backed setup n 0 setup.shards; done = λ op reply branch at is. absurd (cc is) }
 run_held setup ok (e ∷ past) run = held_more setup ok past e run (run_held setup ok past run.1)
 
@@ -420,7 +420,7 @@ some_times (x ∷ ps) p i =
     ]
 
 -- an operation that took one point alone
-one_point : (ps : List Point) (p q : Point) → point_times ps q.op ≤ 1 → IsIn ps p → IsIn ps q → p.op ≡ q.op → p ≡ q
+pub one_point : (ps : List Point) (p q : Point) → point_times ps q.op ≤ 1 → IsIn ps p → IsIn ps q → p.op ≡ q.op → p ≡ q
 one_point [] p q few i j same = absurd i
 one_point (x ∷ ps) p q few i j same =
     elim i [

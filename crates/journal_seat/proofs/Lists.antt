@@ -1,8 +1,7 @@
 -- Lists that begin with others, and the entries of one seat.
-use Rattle.std.proofs.Common.{◌≡◌, ◌≢◌, ℕ, zero, suc, ◌+◌, ◌≤◌, ◌<◌, ◌==◌, eqb, eq-eqb, ne_eqb, Bool, true, false, List, [], ◌∷◌, ◌++◌, length, take, drop, set, refl, sym, ap, ◌∙◌, subst, cond, inl, inr, ◌⊎◌, ⊎_elim, arith, length-append, append_assoc}
+use Rattle.std.proofs.Common.{◌≡◌, ◌≢◌, ℕ, zero, suc, ◌<◌, ◌==◌, eqb, eq-eqb, ne_eqb, true, false, List, [], ◌∷◌, ◌++◌, length, drop, refl, sym, ap, ◌∙◌, subst, cond, inl, inr, ◌⊎◌, ⊎_elim, arith, append_assoc}
 use Rattle.std.specs.Prelude.{nat_le}
-use Rattle.std.specs.List.{filter, All}
-use Rattle.std.proofs.lemmas.Bool.{cond_both, eqb-true, eqb-false, or_parts, or_left, or_right, or_from, and_parts, true≢false}
+use Rattle.std.proofs.lemmas.Bool.{cond_both, eqb-false, or_parts, or_left, or_right, or_from, and_parts, true≢false}
 use Rattle.std.proofs.lemmas.List.{take-append-drop, append-nil}
 use Rattle.std.proofs.lemmas.List.Elements.{filter-append, All-head, All-tail}
 use Rattle.std.proofs.Math.Seq.{take-append_seam, take-length}

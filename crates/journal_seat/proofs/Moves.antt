@@ -1,18 +1,18 @@
 -- Each step of a seat keeps the rule.
-use Rattle.std.proofs.Common.{◌≡◌, ◌≢◌, ℕ, zero, suc, ◌+◌, ◌≤◌, ◌<◌, ◌==◌, eqb, eq-eqb, ne_eqb, Bool, true, false, List, [], ◌∷◌, ◌++◌, length, take, drop, set, refl, sym, ap, ◌∙◌, subst, cond, inl, inr, ◌⊎◌, ⊎_elim, arith, Option, Some, None}
+use Rattle.std.proofs.Common.{◌≡◌, ◌≢◌, ℕ, zero, suc, ◌==◌, eqb, eq-eqb, ne_eqb, true, false, List, [], ◌∷◌, ◌++◌, length, drop, set, refl, sym, ap, ◌∙◌, subst, cond, ⊎_elim, arith, Option, Some, None}
 use Rattle.std.specs.Prelude.{slice_index, unwrap_or, is_some}
 use Rattle.std.specs.List.{All}
-use Rattle.std.proofs.lemmas.Bool.{cases_Bool, true≢false, cases_eq, eqb-true}
+use Rattle.std.proofs.lemmas.Bool.{cases_Bool, true≢false}
 use Rattle.std.proofs.lemmas.List.Elements.{All-nil, All-cons, All-weaker}
 use mathlib.Core.Option.{some, none, some-injective, some-ne-none}
 use lib.ListN.{get_elem?}
 use prog.Atomic.{either}
-use Rattle.atomic_table.specs.Table.{State, Me, Step, Act, keeps, takes, gives, step, stepped, opening, Allows, Splits, Joins, Valid, carried_after, rest}
+use Rattle.atomic_table.specs.Table.{State, Me, Act, keeps, takes, gives, step, stepped, opening, Allows, Splits, Joins, Valid, carried_after, rest}
 use Rattle.atomic_table.proofs.Lists.{at_set, set_here, set_else, set_again, at_longer, exchanged}
 use Rattle.journal_seat.specs.declared.view.EndedSeat.{EndedSeat}
 use Rattle.journal_seat.specs.declared.view.View.{View}
-use Rattle.journal_seat.specs.Book.{StartsWith, made_by, is_among, opener, newcomer, with_given, nobody, ended_seat, joined, took, gave, IsIdle, HasOut, IsKnown, IsKept, Tried, Gave, IsOwn, IsTakenIn, IsFirst, Fits, Keeps, Kept}
-use Rattle.journal_seat.proofs.Lists.{starts_self, starts_both, starts_longer, grown_own, grown_else, among_first, among_later, not_among, at_end, at_within}
+use Rattle.journal_seat.specs.Book.{StartsWith, is_among, opener, newcomer, with_given, nobody, ended_seat, joined, took, gave, IsIdle, HasOut, IsKnown, Tried, Gave, IsOwn, IsTakenIn, IsFirst, Fits, Keeps, Kept}
+use Rattle.journal_seat.proofs.Lists.{starts_self, starts_both, starts_longer, grown_own, grown_else, among_later, not_among, at_end, at_within}
 
 no : {P : Type 0} → false ≡ true → P
 no e = absurd (true≢false (sym e))

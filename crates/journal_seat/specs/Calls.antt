@@ -1,5 +1,5 @@
 -- What the calls of a book tell.
-use Rattle.std.specs.Prelude.{◌≡◌, ℕ, ◌+◌, Bool, true, false, if◌then◌else◌, nat_le, nat_lt, List, [], ◌∷◌, ◌++◌, length, Option, Some, None}
+use Rattle.std.specs.Prelude.{◌≡◌, ℕ, ◌+◌, true, false, if◌then◌else◌, nat_le, nat_lt, List, [], ◌∷◌, ◌++◌, length, Option, Some, None}
 use Rattle.std.specs.List.{sum_by, All}
 use Rattle.journal_seat.specs.declared.book.Book.{Book}
 use Rattle.journal_seat.specs.declared.book.BookLimits.{BookLimits}

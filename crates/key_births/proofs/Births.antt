@@ -13,7 +13,7 @@ use Rattle.branch_history.proofs.PathLaws.{id_same, id_self, other_is, inside_is
 use Rattle.path_facts.specs.Paths.{Version, Birth, TellsApart, is_named, has_no_branch, is_zero, on, IsIn, ComesFrom}
 use Rattle.path_facts.specs.Paths as key
 use Rattle.path_facts.proofs.Paths as paths
-use Rattle.key_births.specs.Births.{key_version, birth_at, births_at, IsRising}
+use Rattle.key_births.specs.Births.{key_version, birth_at, births_at, IsRising, GoOn}
 
 pub names : TellsApart same_id
 names = record { equal = λ a b e. id_same a b e; itself = λ a. id_self a }
@@ -30,7 +30,7 @@ zeros : (x : Stored) → stored.is_zero x ≡ is_zero (key_version x)
 zeros x = ap (λ c. c && (x.timestamp == 0)) (nameless x.branch)
 
 -- a branch of the pair is known
-births_known : (index : Id → ℕ) (bs : Branches) (h : ℕ) (k : List ℕ) (z : Birth Id) → IsIn (births_at index bs h k) z → knows bs z.branch ≡ true
+pub births_known : (index : Id → ℕ) (bs : Branches) (h : ℕ) (k : List ℕ) (z : Birth Id) → IsIn (births_at index bs h k) z → knows bs z.branch ≡ true
 births_known index [] h k z i = absurd i
 births_known index (b ∷ bs) h k z i =
     let later : IsIn (births_at index bs h k) z → cond (same_id b.0 z.branch) true (knows bs z.branch) ≡ true =
@@ -43,7 +43,7 @@ births_known index (b ∷ bs) h k z i =
       ]
     ]
 
-births_index : (index : Id → ℕ) (bs : Branches) (h : ℕ) (k : List ℕ) (z : Birth Id) → IsIn (births_at index bs h k) z → z.registered ≡ index z.branch
+pub births_index : (index : Id → ℕ) (bs : Branches) (h : ℕ) (k : List ℕ) (z : Birth Id) → IsIn (births_at index bs h k) z → z.registered ≡ index z.branch
 births_index index [] h k z i = absurd i
 births_index index (b ∷ bs) h k z i =
     elim (cases_Bool (in_region b.1.region h k)) [
@@ -91,7 +91,7 @@ paths_at index (b ∷ bs) h k v x i =
           ])
     ]
 
-pub history_at : (index : Id → ℕ) (bs : Branches) (h : ℕ) (k : List ℕ) → IsHistory bs → IsInTime bs h k → IsRising index bs → key.IsHistory same_id (births_at index bs h k)
+pub history_at : (index : Id → ℕ) (bs : Branches) (h : ℕ) (k : List ℕ) → IsHistory bs → GoOn bs h k → IsRising index bs h k → key.IsHistory same_id (births_at index bs h k)
 history_at index [] h k i t u = tt
 history_at index (b ∷ bs) h k i t u =
     let rest = births_at index bs h k in
@@ -100,11 +100,10 @@ history_at index (b ∷ bs) h k i t u =
     elim (cases_Bool (in_region b.1.region h k)) [
       | inr out ↦ subst (λ c. key.IsHistory same_id (cond c (here ∷ rest) rest)) (sym out) below
       | inl in_it ↦
-          let starts = t.0 in_it in
-          let on_it : on same_id rest here.origin here.origin ≡ true = sym (paths_at index bs h k (origin_at b.1 h k) (origin_at b.1 h k) i.3) ∙ starts.on in
+          let on_it : on same_id rest here.origin here.origin ≡ true = sym (paths_at index bs h k (origin_at b.1 h k) (origin_at b.1 h k) i.3) ∙ t.0 in_it in
           subst (λ c. key.IsHistory same_id (cond c (here ∷ rest) rest)) (sym in_it) (
             record {
-              later = λ z j. subst (λ n. n < index b.0) (sym (births_index index bs h k z j)) (u.0 z.branch (births_known index bs h k z j));
+              later = u.0 in_it;
               fresh = λ z j. new_name index b bs h k i.0 z j;
               origin = λ c e. paths.known_on same_id names rest here.origin here.origin on_it c e;
             },

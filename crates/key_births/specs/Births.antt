@@ -4,9 +4,8 @@ use Rattle.region_map.specs.declared.id.Id.{Id}
 use Rattle.region_map.specs.Regions.{in_region}
 use Rattle.branch_history.specs.declared.version.Version.{Version as Stored}
 use Rattle.branch_history.specs.declared.history.BranchBirth.{BranchBirth}
-use Rattle.branch_history.specs.Paths.{Branches, origin_at}
-use Rattle.branch_history.specs.Histories.{knows}
-use Rattle.path_facts.specs.Paths.{Version, Birth}
+use Rattle.branch_history.specs.Paths.{Branches, origin_at, is_on}
+use Rattle.path_facts.specs.Paths.{Version, Birth, IsIn}
 
 abbrev pub key_version : Stored → Version Id
 key_version v = record { branch = v.branch; timestamp = v.timestamp }
@@ -27,7 +26,13 @@ abbrev pub births_at : (Id → ℕ) → Branches → ℕ → List ℕ → List (
 births_at index [] h k = []
 births_at index (b ∷ bs) h k = if in_region b.1.region h k then birth_at index b h k ∷ births_at index bs h k else births_at index bs h k
 
--- each branch was registered behind those before it
-abbrev pub IsRising : (Id → ℕ) → Branches → Type 0
-IsRising index [] = Unit {0}
-IsRising index (b ∷ bs) = ((id : Id) → knows bs id ≡ true → index id < index b.0) × IsRising index bs
+-- each branch of the pair was registered behind those of the pair before it
+abbrev pub IsRising : (Id → ℕ) → Branches → ℕ → List ℕ → Type 0
+IsRising index [] h k = Unit {0}
+IsRising index (b ∷ bs) h k =
+    (in_region b.1.region h k ≡ true → (z : Birth Id) → IsIn (births_at index bs h k) z → z.registered < index b.0) × IsRising index bs h k
+
+-- each branch of the pair goes on from a point of a path, in the history before it
+abbrev pub GoOn : Branches → ℕ → List ℕ → Type 0
+GoOn [] h k = Unit {0}
+GoOn (b ∷ bs) h k = (in_region b.1.region h k ≡ true → is_on bs h k (origin_at b.1 h k) (origin_at b.1 h k) ≡ true) × GoOn bs h k

@@ -11,7 +11,7 @@ ghost use Rattle.branch_history.specs.Paths.{Branches, is_on};
 ghost use Rattle.branch_history.specs.Histories.{knows, IsHistory, IsInTime};
 ghost use Rattle.path_facts.specs.Paths.{TellsApart, IsTimed, on, known};
 ghost use Rattle.path_facts.specs.Paths as key;
-ghost use Rattle.key_births.specs.Births.{key_version, births_at, IsRising};
+ghost use Rattle.key_births.specs.Births.{key_version, births_at, IsRising, GoOn};
 
 /// Ids tell branches apart, and a path of a history at a pair is that of the pair's branches.
 pub fn paths_of_births()
@@ -20,10 +20,11 @@ pub fn paths_of_births()
         → is_on bs h k v x ≡ on same_id (births_at index bs h k) (key_version v) (key_version x) }
 {}
 
-/// The branches of a pair are a history too, where those of the whole are in time at the pair and were registered one behind
-/// the other; and they are in time. Those that are known up to an index are those of the history up to it.
+/// The branches of a pair are a history too, where each goes on from a point of a path and was registered behind those before
+/// it; and they are in time where those of the whole are. Those that are known up to an index are those of the history up to
+/// it.
 pub fn births_are_a_history()
-    ensures history { (index : Id → ℕ) (bs : Branches) (h : ℕ) (k : List ℕ) → IsHistory bs → IsInTime bs h k → IsRising index bs
+    ensures history { (index : Id → ℕ) (bs : Branches) (h : ℕ) (k : List ℕ) → IsHistory bs → GoOn bs h k → IsRising index bs h k
         → key.IsHistory same_id (births_at index bs h k) }
     ensures timed { (index : Id → ℕ) (bs : Branches) (h : ℕ) (k : List ℕ) → IsHistory bs → IsInTime bs h k → IsTimed same_id (births_at index bs h k) }
     ensures known { (index : Id → ℕ) (w : ℕ) (newer older : Branches) (h : ℕ) (k : List ℕ)

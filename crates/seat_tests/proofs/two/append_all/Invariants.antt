@@ -1,6 +1,6 @@
 use Rattle.std.proofs.Common.{◌≡◌}
 use Rattle.journal_seat.specs.Book.{IsIdle}
-use Rattle.seat_tests.specs.Made.{HasMade, Names}
+use Rattle.seat_tests.specs.Made.{HasMade}
 use Rattle.seat_tests.proofs.two.append_all.Given as goal
 
 abbrev pub invariant-loop-entry : goal.invariant-loop-entry

@@ -1,7 +1,6 @@
-use Rattle.std.proofs.Common.{◌≡◌, ap, subst, ◌∙◌, sym}
-use Rattle.std.specs.List.{All}
+use Rattle.std.proofs.Common.{ap, subst, ◌∙◌, sym}
 use Rattle.std.proofs.lemmas.List.Elements.{All-head}
-use Rattle.journal_seat.specs.Book.{made_by, IsKept, ended_seat, joined}
+use Rattle.journal_seat.specs.Book.{made_by, IsKept, ended_seat}
 use Rattle.journal_seat.specs.Calls.{IsWhole}
 use Rattle.seat_tests.proofs.two.whole.Goals as goal
 

@@ -1,5 +1,4 @@
-use Rattle.std.proofs.Common.{◌≡◌, sym, subst}
-use Rattle.journal_seat.specs.Book.{Kept}
+use Rattle.std.proofs.Common.{sym, subst}
 use Rattle.journal_seat.specs.Calls.{IsWhole}
 use Rattle.journal_seat.proofs.Ends.{ends}
 use Rattle.journal_seat.proofs.book.Book.close.Goals as goal

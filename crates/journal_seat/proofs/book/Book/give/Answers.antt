@@ -1,4 +1,4 @@
-use Rattle.std.proofs.Common.{◌≡◌, arith}
+use Rattle.std.proofs.Common.{arith}
 use Rattle.journal_seat.specs.Book.{given_list}
 use Rattle.journal_seat.proofs.Moves.{gives_back_as}
 use Rattle.journal_seat.proofs.book.Book.give.Goals as goal

@@ -1,4 +1,4 @@
-use Rattle.std.proofs.Common.{◌≡◌, arith}
+use Rattle.std.proofs.Common.{arith}
 use Rattle.journal_seat.proofs.Moves.{joins}
 use Rattle.journal_seat.proofs.book.Book.join.Goals as goal
 

@@ -1,4 +1,4 @@
-use Rattle.std.proofs.Common.{◌≡◌, ◌∙◌, ap}
+use Rattle.std.proofs.Common.{◌∙◌, ap}
 use Rattle.journal_seat.proofs.Moves.{has_slot}
 use Rattle.journal_seat.proofs.book.Book.look.Goals as goal
 

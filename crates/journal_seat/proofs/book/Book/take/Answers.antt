@@ -1,4 +1,4 @@
-use Rattle.std.proofs.Common.{◌≡◌, ◌∙◌, sym, subst, arith}
+use Rattle.std.proofs.Common.{◌∙◌, sym, subst, arith}
 use Rattle.journal_seat.specs.Book.{IsIdle}
 use Rattle.journal_seat.proofs.Moves.{tries_as}
 use Rattle.journal_seat.proofs.book.Book.take.Goals as goal

@@ -1,0 +1,9 @@
+pub mod Branches
+pub mod Climbing
+pub mod Contracts
+pub mod Indexes
+pub mod Makers
+pub mod Moments
+pub mod ToldLog
+pub mod Versions
+pub mod Views

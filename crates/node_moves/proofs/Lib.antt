@@ -1,0 +1,13 @@
+pub mod Answering
+pub mod AtKeys
+pub mod Executions
+pub mod KeyRows
+pub mod KeyStarts
+pub mod KeySteps
+pub mod Lists
+pub mod PartRows
+pub mod PartSteps
+pub mod RowMoves
+pub mod Saying
+pub mod StepMoves
+pub mod Steps
