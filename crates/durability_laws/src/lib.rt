@@ -1,6 +1,6 @@
 //! What an answer rests on: the voters that hold what was done.
 //!
-//! Above: nothing. Below: the laws of runs.
+//! Above: `fact_runs`, `decided_runs`. Below: the laws of runs.
 //! Promise: what is done is held by more than half of the voters of its shard, from the answer on; and what is answered to
 //! lack a majority lacks it.
 #![tactic(auto)]

@@ -86,7 +86,7 @@ module _ (setup : SetupState) (ok : IsSetup setup) (past : List Entry) (run : Is
   own : (y : Birth Id) (b : B y) (c : Came setup ok past run (b.id, b.birth) b.older) → IsOwn c.maker.0 (state setup c.maker.0 c.asked.moment).life b.id
   own y b c = asked_own setup ok past run c.maker b.id b.birth.region c.based_on b.birth.origin c.asked
 
-  -- the key's primary makes it
+  -- the key's primary makes it; so far that is one node
   pub maker_is : (y : Birth Id) → paths.IsIn (key_run setup past key).births y → y.maker ≡ (key_first setup ok past run key).shard.primary.0
   maker_is y i =
       let b = key_born setup ok past run key y i in
@@ -96,6 +96,7 @@ module _ (setup : SetupState) (ok : IsSetup setup) (past : List Entry) (run : Is
         | Later c ↦ (own y b c).node_is ∙ sym (asker_is setup ok past run key (b.id, b.birth) b.older b.inside c)
       ]
 
+  -- so far all tenures are 0; where they begin anew, this is what the change that registered it was asked
   pub tenure_0 : (y : Birth Id) → paths.IsIn (key_run setup past key).births y → y.tenure ≡ 0
   tenure_0 y i =
       let b = key_born setup ok past run key y i in

@@ -144,7 +144,7 @@ module _ (setup : SetupState) (ok : IsSetup setup) (past : List Entry) (run : Is
           tenure = omega (arith, none);
         }
 
-  -- ---- at the node that leads the key, and at others
+  -- ---- at the node that leads the key, and at others: so far no node changes from one to the other, or takes a chunk
 
   data Role (q : ℕ) : Type 0 where
     Leads : (key_first setup ok past run key).shard.primary.0 ≡ q → Role q

@@ -1,9 +1,10 @@
 //! The facts of one key, in every run. Nodes tick, go down and come up, and messages come in any order, again and
 //! again, or never.
-ghost use Rattle.std.specs.Prelude.{◌≡◌, ℕ, List};
+ghost use Rattle.std.specs.Prelude.{◌≡◌, ◌↔◌, ℕ, ◌≤◌, ◌<◌, List};
 ghost use Rattle.path_facts.specs.Invariant.{Facts};
-ghost use Rattle.path_facts.specs.Paths.{on};
+ghost use Rattle.path_facts.specs.Paths.{Birth, IsIn, on};
 ghost use Rattle.key_births.specs.Births.{key_version};
+ghost use Rattle.row_runs.specs.runs.region_map.declared.id.Id.{Id};
 ghost use Rattle.row_runs.specs.runs.region_map.Keys.{hash_of};
 ghost use Rattle.row_runs.specs.runs.region_map.Equal.{same_id};
 ghost use Rattle.row_runs.specs.runs.branch_history.declared.version.Version.{Version};
@@ -37,4 +38,18 @@ pub fn own_contracts_of_keys()
     ensures { (setup : SetupState) → IsSetup setup → (past : List Entry) → IsRun setup past
         → (key : List ℕ) (node m : ℕ) → (key_run setup past key).contract ((key_run setup past key).view node m)
         ≡ contract_or_none (contract_at (table_of (state_at setup past node m).log).contracts (hash_of key setup.hashes) key) }
+{}
+
+/// In every run, the branches of a key stand in the log in the order of their tenures; those of one tenure have one maker, and
+/// stand in the order of the lives in which it made them.
+pub fn branches_of_keys_are_ordered()
+    ensures tenures { (setup : SetupState) → IsSetup setup → (past : List Entry) → IsRun setup past
+        → (key : List ℕ) (y z : Birth Id) → IsIn (key_run setup past key).births y → IsIn (key_run setup past key).births z
+        → y.registered ≤ z.registered → y.tenure ≤ z.tenure }
+    ensures makers { (setup : SetupState) → IsSetup setup → (past : List Entry) → IsRun setup past
+        → (key : List ℕ) (y z : Birth Id) → IsIn (key_run setup past key).births y → IsIn (key_run setup past key).births z
+        → y.registered ≤ z.registered → y.tenure ≡ z.tenure → y.maker ≡ z.maker }
+    ensures lives { (setup : SetupState) → IsSetup setup → (past : List Entry) → IsRun setup past
+        → (key : List ℕ) (y z : Birth Id) → IsIn (key_run setup past key).births y → IsIn (key_run setup past key).births z
+        → y.tenure ≡ z.tenure → (y.registered < z.registered) ↔ (y.life < z.life) }
 {}

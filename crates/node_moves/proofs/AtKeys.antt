@@ -1,9 +1,10 @@
 -- What lists of parts, versions and rows are at one key.
-use Rattle.std.proofs.Common.{◌≡◌, ◌<◌, ◌+◌, ℕ, Bool, true, false, cond, ◌&&◌, List, [], ◌∷◌, ◌++◌, map, filter, Option, Some, refl, ap, ap₂, ◌∙◌, subst, arith, sum}
+use Rattle.std.proofs.Common.{◌≡◌, sym, ◌<◌, ◌+◌, ℕ, Bool, true, false, cond, ◌&&◌, List, [], ◌∷◌, ◌++◌, map, filter, Option, Some, refl, ap, ◌∙◌, subst, arith, sum}
 use Rattle.std.proofs.Math.Nat.{mod-lt}
-use Rattle.std.proofs.lemmas.Bool.{cond_both, false≢true, eqb-true, and_parts}
+use Rattle.std.proofs.lemmas.Bool.{cond_both}
 use Rattle.std.proofs.lemmas.List.Elements.{filter-append}
 use Rattle.std.specs.Option.{is_some}
+use Rattle.std.specs.Cmp.Lexicographic.{texts_ties}
 use Rattle.node_moves.specs.region_map.declared.id.Id.{Id}
 use Rattle.node_moves.specs.region_map.declared.region.Region.{Region}
 use Rattle.node_moves.specs.region_map.Keys.{hash_of}
@@ -17,6 +18,7 @@ use Rattle.node_moves.specs.store_api.declared.Row.{Row}
 use Rattle.node_moves.specs.store_api.Rows.{Rows, is_same_key, row_of, with_row}
 use Rattle.node_moves.specs.store_api.Versions.{advanced, advanced_map, advanced_rows, comes_to, is_behind, point, replaced, replaced_map, version_of}
 use Rattle.node_moves.specs.Keys.{row_at, version_at, version_started}
+use Rattle.store_api.proofs.AtKeys.{same_keys}
 use Rattle.store_api.proofs.RowLemmas.{row_of-with_row_same, row_of-with_row_other}
 use Rattle.store_api.proofs.VersionMaps.{advanced_map_at, advanced_map_hashes, replaced_map_at, replaced_map_hashes}
 
@@ -39,16 +41,6 @@ module _ {X : Type 0} (p : X → Bool) where
       ap (λ b. cond b (f x ∷ filter p (map f xs)) (filter p (map f xs))) (same x)
       ∙ ap (λ (l : List X). cond (p x) (f x ∷ l) l) (filter_mapped f same xs)
       ∙ elim (p x) as (λ b. cond b (f x ∷ map f (filter p xs)) (map f (filter p xs)) ≡ map f (cond b (x ∷ filter p xs) (filter p xs))) [ true ↦ refl | false ↦ refl ]
-
--- ---- keys
-
-same_key-true : (a b : List ℕ) → is_same_key a b ≡ true → a ≡ b
-same_key-true [] [] h = refl
-same_key-true [] (y ∷ ys) h = absurd (false≢true h)
-same_key-true (x ∷ xs) [] h = absurd (false≢true h)
-same_key-true (x ∷ xs) (y ∷ ys) h =
-    let both = and_parts _ _ h in
-    ap₂ (λ (a : ℕ) (l : List ℕ). a ∷ l) (eqb-true x y both.0) (same_key-true xs ys both.1)
 
 -- ---- versions
 
@@ -101,7 +93,7 @@ row_advanced hashes key region versions same branch rows (Write at own row) =
     elim (is_same_key key own) as (λ c. is_same_key key own ≡ c → row_of (cond (comes_to region branch at versions own) (with_row rows own row) rows) key ≡ cond (c && comes) (Some row) (row_of rows key)) [
       | true ↦ λ e.
           let here : comes_to region branch at versions key ≡ comes = ap (λ n. in_region region (hash_of key n) key && is_behind branch at (version_of versions key)) same in
-          subst P (same_key-true key own e)
+          subst P (same_keys key own (sym (texts_ties key own) ∙ e))
           (ap (λ c. row_of (cond c (with_row rows key row) rows) key) here
           ∙ elim comes as (λ c. row_of (cond c (with_row rows key row) rows) key ≡ cond c (Some row) (row_of rows key)) [ true ↦ row_of-with_row_same rows key row | false ↦ refl ])
       | false ↦ λ e.

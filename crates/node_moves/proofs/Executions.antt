@@ -115,11 +115,6 @@ pub record Waits (s : NodeState) (input : Input) (branch : Id) (d : Decided) : T
 pub record AllAwait (s : NodeState) (input : Input) (x : Execution) : Type 0 where
   pub all : AllByRecursion (Waits s input x.branch) x.dispatch.waiting
 
-awaits_op : (s : NodeState) (input : Input) (branch : Id) (d : Decided) (o : Option OpId)
-    → ((op : OpId) → Awaits s input branch op d.at d.reply) → AwaitsOp s input branch d o
-awaits_op s input branch d None h = tt
-awaits_op s input branch d (Some op) h = h op
-
 pub awaits_at : (s : NodeState) (input : Input) (x : Execution) → AllAwait s input x → (op : OpId) (at : ℕ) (reply : Reply)
     → IsIn x.dispatch.waiting (record { op = Some op; at = at; reply = reply }) → Awaits s input x.branch op at reply
 awaits_at s input x h op at reply i = (all_member (Waits s input x.branch) x.dispatch.waiting h.all (record { op = Some op; at = at; reply = reply }) i).waits

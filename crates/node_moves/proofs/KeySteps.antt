@@ -1,5 +1,5 @@
 -- What a whole step does at one key.
-use Rattle.std.proofs.Common.{◌≡◌, ℕ, List, Option, ap, ◌∙◌, refl}
+use Rattle.std.proofs.Common.{◌≡◌, ℕ, List, Option, None, ap, ◌∙◌, refl}
 use Rattle.node_moves.specs.exec_types.declared.input.Input.{Input}
 use Rattle.node_moves.specs.primary_exec.Execution.{Execution, decided}
 use Rattle.node_moves.specs.node_core.declared.node.Brought.{Brought}
@@ -8,7 +8,6 @@ use Rattle.node_moves.specs.node_core.Starting.{due}
 use Rattle.node_moves.specs.node_core.Step.{NodeState}
 use Rattle.node_moves.specs.primary_exec.declared.asking.Asking.{Asking}
 use Rattle.node_moves.specs.table_log.Logs.{table_of}
-use Rattle.std.specs.Prelude.{None}
 use Rattle.node_moves.specs.Keys.{asks_for, at_key}
 use Rattle.node_moves.specs.Move.{Acts, HasHashes, Rises, Stays, StepMoves}
 use Rattle.node_moves.specs.Parts.{Held, PartsAct, More, Same, StepParts}

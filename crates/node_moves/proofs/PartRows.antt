@@ -47,10 +47,8 @@ request_parts s op key what brought =
 -- ---- parts of streams
 
 -- no following applies the part
-record IsLeft (fs : List Following) (rows : Rows) (versions : Pieced Version) (r : Streamed) : Type 0 where
-  followings : r.followings ≡ fs
-  rows_are : r.rows ≡ rows
-  versions_are : r.versions ≡ versions
+abbrev IsLeft : List Following → Rows → Pieced Version → Streamed → Type 0
+IsLeft fs rows versions r = (r.followings ≡ fs) × (r.rows ≡ rows) × (r.versions ≡ versions)
 
 -- one does
 record IsApplied (fs : List Following) (rows : Rows) (versions : Pieced Version) (from : NodeId) (stream : Stream) (r : Streamed) : Type 0 where
@@ -66,17 +64,17 @@ record IsApplied (fs : List Following) (rows : Rows) (versions : Pieced Version)
 
 part_cases : (fs : List Following) (rows : Rows) (versions : Pieced Version) (from : NodeId) (stream : Stream) (view : ℕ)
     → IsLeft fs rows versions (stream_all fs rows versions from stream view) ⊎ IsApplied fs rows versions from stream (stream_all fs rows versions from stream view)
-part_cases [] rows versions from stream view = inl (record { followings = refl; rows_are = refl; versions_are = refl })
+part_cases [] rows versions from stream view = inl (refl, refl, refl)
 part_cases (f ∷ fs) rows versions from stream view =
     let rest : Streamed = stream_all fs rows versions from stream view in
     let P : Streamed → Type 0 = λ r. IsLeft (f ∷ fs) rows versions r ⊎ IsApplied (f ∷ fs) rows versions from stream r in
     cond_both (is_ours f from stream) (taken (stream_row f rows versions from stream view) fs) (left_alone f rest) P
     (λ ours. stream_cases (λ (step : FollowingStep). P (taken step fs)) f rows versions from stream view
-    (inl (record { followings = refl; rows_are = refl; versions_are = refl }))
-    (inl (record { followings = refl; rows_are = refl; versions_are = refl }))
+    (inl (refl, refl, refl))
+    (inl (refl, refl, refl))
     (λ next. inr (record { before = []; f = f; after = fs; these = refl; ours = ours; next = next; followings = refl; rows_are = refl; versions_are = refl })))
     (λ _. elim (part_cases fs rows versions from stream view) [
-      | inl l ↦ inl (record { followings = ap (λ (gs : List Following). f ∷ gs) l.followings; rows_are = l.rows_are; versions_are = l.versions_are })
+      | inl l ↦ inl (ap (λ (gs : List Following). f ∷ gs) l.0, l.1, l.2)
       | inr a ↦ inr (record {
         before = f ∷ a.before;
         f = a.f;
@@ -103,7 +101,7 @@ module _ (s : NodeState) (number : ℕ) where
       let brought : Option Brought = Some (record { from = from; message = message.Stream stream }) in
       let move : PartsMove s (Deliver number) brought (held (message_row s from (message.Stream stream)).node) =
       elim (part_cases s.followings s.rows s.versions from stream s.log.acted) [
-        | inl l ↦ Rest tt (λ i. record (held s) { followings = l.followings i; versions = l.versions_are i; rows = l.rows_are i })
+        | inl l ↦ Rest tt (λ i. record (held s) { followings = l.0 i; versions = l.2 i; rows = l.1 i })
         | inr a ↦ Apply number from stream a.before a.f a.after refl refl a.these a.ours a.next
             (λ i. record (held s) { followings = a.followings i; versions = a.versions_are i; rows = a.rows_are i })
       ] in

@@ -38,6 +38,7 @@ record Acts (s : NodeState) (input : Input) (r a : Stepped) : Type 0 where
   log_is : unacted s a.node ≡ r.node.log
   acts : a.node.log.acted ≡ a.node.log.raft.view
   follows : a.node.followings ≡ r.node.followings
+  acks_are : a.node.acks ≡ r.node.acks
   view : List Output
   view_says : ViewSays s a.node view
   view_spoken : AllSpoken view
@@ -54,6 +55,7 @@ acts_on s input brought r h =
       log_is = same;
       acts = eqb-true log.acted log.raft.view e;
       follows = refl;
+      acks_are = refl;
       view = [];
       view_says = Stays h.acted refl;
       view_spoken = tt;
@@ -64,6 +66,7 @@ acts_on s input brought r h =
       log_is = same;
       acts = refl;
       follows = refl;
+      acks_are = refl;
       view = output.Viewed v.first v.results ∷ [];
       view_says = Rises v.first v.results
           (record {
@@ -76,12 +79,6 @@ acts_on s input brought r h =
       outs_are = refl;
       awaits = starts_await s input r.node.me (table_of (caught_up log)) r.node.asking (record { asking = []; executions = r.node.executions; versions = r.node.versions }) h.awaits;
     })
-
-acts_acks : (r : Stepped) → (act r).node.acks ≡ r.node.acks
-acts_acks r =
-    let log : LogState = r.node.log in
-    let v : Viewed = record { first = log.acted + 1; results = results log } in
-    cond_both (log.acted == log.raft.view) None (Some v) (λ (o : Option Viewed). (act_on r o).node.acks ≡ r.node.acks) (λ _. refl) (λ _. refl)
 
 -- ---- the whole step
 
@@ -136,7 +133,7 @@ module _ (s : NodeState) (input : Input) (brought : Option Brought) where
       record {
         moves = subst (λ log. LogMoves s input brought log (logged outs)) (sym a.log_is) (subst (LogMoves s input brought row.node.log) (sym same) done.moves);
         acts = a.acts;
-        acks = subst (AcksMove s input brought) (sym (acts_acks row)) done.acks;
+        acks = subst (AcksMove s input brought) (sym a.acks_are) done.acks;
       }
 
   step_sends : AllMessages (Sends s input brought end) outs

@@ -26,26 +26,23 @@ module _ (s : NodeState) (input : Input) (brought : Option Brought) where
   abbrev end : NodeState
   end = (node_step s input brought).node
 
-  abbrev outs : List Output
-  outs = (node_step s input brought).outs
-
   -- before what is decided is answered
   abbrev before : List Execution
   before = (act (input_row s input brought)).node.executions
 
-  pub says_whole : (xs : List Execution) × StepSays s input end outs xs
+  pub says_whole : (xs : List Execution) × StepSays s input end (node_step s input brought).outs xs
   says_whole = (before, step_says s input brought)
 
-  pub says_each : (out : Output) → IsIn outs out → Says s input end out
-  says_each out i = each_says s input end outs before (step_says s input brought) out i
+  pub says_each : (out : Output) → IsIn (node_step s input brought).outs out → Says s input end out
+  says_each out i = each_says s input end (node_step s input brought).outs before (step_says s input brought) out i
 
-  pub sends_each : (to : NodeId) (m : Message) → IsIn outs (output.Message to m) → Sends s input brought end to m
+  pub sends_each : (to : NodeId) (m : Message) → IsIn (node_step s input brought).outs (output.Message to m) → Sends s input brought end to m
   sends_each = each_sends s input brought
 
-  pub sends_logs : StepLogs s input brought end outs
+  pub sends_logs : StepLogs s input brought end (node_step s input brought).outs
   sends_logs = step_logs s input brought
 
-  pub moves_parts : (xs : List Execution) × StepSays s input end outs xs × StepParts s input brought end xs
+  pub moves_parts : (xs : List Execution) × StepSays s input end (node_step s input brought).outs xs × StepParts s input brought end xs
   moves_parts = (before, step_says s input brought, step_parts s input brought)
 
   pub moves_each : (key : List ℕ) → HasHashes s → StepMoves s input brought key end

@@ -205,9 +205,9 @@ module _ (setup : SetupState) (ok : IsSetup setup) (past : List Entry) (e : Entr
       subst (λ (v : SetupState). f.primary.0 < v.nodes) (sym of) (subst (λ k. k < setup.nodes) from (message_within setup ok past run.1 number m at).0) in
       let some : 0 < s.versions.hashes = subst (λ k. 0 < k) (sym hashes) (some_hash setup ok) in
       let done = applies_next s number f stream follows once some stands ((run_facts setup past run.1).caught n) within session next above in
-      let step_is : node_step s (Deliver number) (Some b) ≡ node_step s e.input (brought past e.input) =
-      ap (λ (i : Input). node_step s i (Some b)) (sym delivers) ∙ ap (node_step s e.input) (sym brings) in
-      let whole : node_step s e.input (brought past e.input) ≡ record { node = state setup n (e ∷ past); outs = e.outputs } =
-      ap (λ (t : NodeState). record { node = t; outs = (node_step s e.input (brought past e.input)).outs }) (sym (own_state setup past e))
-      ∙ ap (λ (o : List Output). record { node = state setup n (e ∷ past); outs = o }) (sym run.0.outputs) in
-      subst (λ (t : Stepped). IsApplied s t f stream) (step_is ∙ whole) done
+      let by_input : IsApplied s (node_step s e.input (Some b)) f stream = subst (λ (i : Input). IsApplied s (node_step s i (Some b)) f stream) (sym delivers) done in
+      let by_entry : IsApplied s (node_step s e.input (brought past e.input)) f stream = subst (λ (o : Option Brought). IsApplied s (node_step s e.input o) f stream) (sym brings) by_input in
+      let outs : List Output = (node_step s e.input (brought past e.input)).outs in
+      let after : IsApplied s (record { node = state setup n (e ∷ past); outs = outs }) f stream =
+      subst (λ (t : NodeState). IsApplied s (record { node = t; outs = outs }) f stream) (sym (own_state setup past e)) by_entry in
+      subst (λ (o : List Output). IsApplied s (record { node = state setup n (e ∷ past); outs = o }) f stream) (sym run.0.outputs) after

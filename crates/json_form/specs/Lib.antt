@@ -1,0 +1,5 @@
+pub mod Ids
+pub mod Keys
+pub mod Kept
+pub mod Operations
+pub mod Sets
